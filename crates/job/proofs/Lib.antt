@@ -1,0 +1,2 @@
+-- The proof of demand 3 and of the marked cases, and the laws of the definitions.
+pub mod Good

@@ -1,0 +1,5 @@
+-- The laws of the shared definitions, by file of the definitions.
+pub mod Logic
+pub mod RowLaws
+pub mod TestLaws
+pub mod PlaceLaws

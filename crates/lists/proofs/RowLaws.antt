@@ -1,0 +1,74 @@
+-- Laws of rows: their length, and what stands at a place.
+use mathlib.Core.Path.{_≡_, refl, sym, ap, _∙_}
+use mathlib.Core.List.{List, [], _∷_, _++_}
+use Prim.Native.Nat.{ℕ, zero, suc, _+_, _*_, _≤_, _<_}
+use native.Mathlib.Omega.{arith}
+use native.Mathlib.Decide.{ℕ-discrete}
+use lib.ListN.{length, getD, length-append, List·getD-append}
+use lib.Seq.{getD-at, getD-append-add}
+use Rattle.lists.specs.Rows.{each, tab, sum}
+
+-- ---- sums
+
+pub sum-same : (n : ℕ) (f g : ℕ → ℕ) → ((i : ℕ) → i < n → f i ≡ g i) → sum n f ≡ sum n g
+unfolding sum
+sum-same zero f g h = refl
+sum-same (suc n) f g h = rw (sum-same n f g (λ i l. h i (omega arith)), h n (omega arith))
+
+pub sum-plus : (n : ℕ) (f g : ℕ → ℕ) → sum n f + sum n g ≡ sum n (λ i. f i + g i)
+unfolding sum
+sum-plus zero f g = refl
+sum-plus (suc n) f g = let e = sum-plus n f g in omega arith
+
+pub sum-const : (n k : ℕ) → sum n (λ i. k) ≡ n * k
+unfolding sum
+sum-const zero k = omega arith
+sum-const (suc n) k = let e = sum-const n k in omega arith
+
+-- ---- rows of parts
+
+module _ {T : Type 0} (g : ℕ → List T) where
+  pub length-each : (n : ℕ) → length (each n g) ≡ sum n (λ i. length (g i))
+  unfolding each sum
+  length-each zero = refl
+  length-each (suc n) = rw (length-append, length-each n)
+
+  -- parts of one length
+  pub length-parts : (n k : ℕ) → ((i : ℕ) → length (g i) ≡ k) → length (each n g) ≡ n * k
+  length-parts n k h = length-each n ∙ sum-same n (λ i. length (g i)) (λ i. k) (λ i l. h i) ∙ sum-const n k
+
+  -- place j of part i lies in the row
+  pub part-within : (n i j : ℕ) → i < n → j < length (g i) → length (each i g) + j < length (each n g)
+  unfolding each
+  part-within zero i j l h = absurd (omega arith)
+  part-within (suc n) i j l h = rw length-append (go (ℕ-discrete i n) (λ l. part-within n i j l h))
+    where
+      go : Dec (i ≡ n) → (i < n → length (each i g) + j < length (each n g)) → length (each i g) + j < length (each n g) + length (g n)
+      go (yes e) f = let h : j < length (g n) = rw e at h in rw e (omega arith)
+      go (no e) f = let k = f (omega arith) in omega arith
+
+  pub getD-each : (n i j : ℕ) (d : T) → i < n → j < length (g i) → getD (each n g) (length (each i g) + j) d ≡ getD (g i) j d
+  unfolding each
+  getD-each zero i j d l h = absurd (omega arith)
+  getD-each (suc n) i j d l h = go (ℕ-discrete i n) (λ l. getD-each n i j d l h)
+    where
+      go : Dec (i ≡ n) → (i < n → getD (each n g) (length (each i g) + j) d ≡ getD (g i) j d)
+          → getD (each n g ++ g n) (length (each i g) + j) d ≡ getD (g i) j d
+      go (yes e) f = rw e (getD-append-add (each n g) (g n) j d)
+      go (no e) f = List·getD-append (each n g) (g n) d (length (each i g) + j) (part-within n i j (omega arith) h) ∙ f (omega arith)
+
+-- ---- rows of elements
+
+pub length-tab {ℓ} : {T : Type ℓ} (n : ℕ) (f : ℕ → T) → length (tab n f) ≡ n
+unfolding each
+length-tab zero f = refl
+length-tab (suc n) f = rw (length-append, length-tab n f) (omega arith)
+
+pub getD-tab {ℓ} : {T : Type ℓ} (n : ℕ) (f : ℕ → T) (i : ℕ) (d : T) → i < n → getD (tab n f) i d ≡ f i
+unfolding each
+getD-tab zero f i d l = absurd (omega arith)
+getD-tab (suc n) f i d l = go (ℕ-discrete i n) (getD-tab n f i d)
+  where
+    go : Dec (i ≡ n) → (i < n → getD (tab n f) i d ≡ f i) → getD (tab n f ++ (f n ∷ [])) i d ≡ f i
+    go (yes e) h = rw e (getD-at (tab n f) (f n) [] d n (length-tab n f))
+    go (no e) h = List·getD-append (tab n f) (f n ∷ []) d i (rw (length-tab n f) (omega arith)) ∙ h (omega arith)
