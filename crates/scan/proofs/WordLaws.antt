@@ -2,9 +2,10 @@
 use mathlib.Core.Path.{_≡_, refl, sym, ap, _∙_}
 use mathlib.Core.Bool.{Bool, true, false, _&&_, cond, false≢true}
 use mathlib.Core.List.{List, [], _∷_}
-use Prim.Native.Nat.{ℕ, zero, suc, _+_, _*_, _-_, _/_, _≤_, _<_}
+use Prim.Native.Nat.{ℕ, zero, suc, _+_, _-_, _≤_, _<_}
 use native.Mathlib.Omega.{arith}
-use native.Mathlib.Nat.{zero-add, suc-add, mod-lt, div-add-mod'}
+use native.Mathlib.Decide.{decLt}
+use native.Mathlib.Nat.{zero-add, suc-add}
 use borrow.Author.Tests.{eq-eqb, ne-eqb}
 use lib.Dec.{eqb}
 use lib.ListN.{length, getD, drop, take, drop-of-length-le, length-drop, length-take, List·getD-eq-default}
@@ -16,6 +17,14 @@ use Rattle.scan.specs.Bytes.{upTo, wordAt, allOf, starts}
 
 pub byte-out : (s : List ℕ) (i : ℕ) → length s ≤ i → 0 ≡ num s i
 byte-out s i h = sym (List·getD-eq-default s 0 h)
+
+-- a byte that is not 0 stands in the text
+pub byte-in : (s : List ℕ) (i : ℕ) → 0 < num s i → i < length s
+byte-in s i h = go (decLt i (length s))
+  where
+    go : Dec (i < length s) → i < length s
+    go (yes l) = l
+    go (no l) = absurd (omega (arith, byte-out s i (omega arith)))
 
 -- ---- where a word ends
 

@@ -82,7 +82,11 @@ pub fn find(names: &[u8], count: usize, s: &[u8], from: usize, to: usize) -> Fou
         }
         i += 1;
     };
-    if k < count { Found::At(k) } else { Found::Nothing }
+    if k < count {
+        Found::At(k)
+    } else {
+        Found::Nothing
+    }
 }
 
 // The line goes on with this word.

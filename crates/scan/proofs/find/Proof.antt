@@ -47,8 +47,8 @@ where-is c =
     ⊎-elim
     (λ h. let e : i ≡ a .count = omega arith in h .1 ∙ sym (subst (λ (n : ℕ). first n f ≡ n) e (c .before .names .inv .1)))
     (λ h.
-        let whole = subst (λ (n : ℕ). all n (Same (a .names .now) w i) ≡ true) (h .2 .taken) (h .1 .inv .3) in
-        h .3 ∙ sym (first-found f i (a .count) (h .1 .inv .2) whole (h .1 .inv .1)))
+    let whole = subst (λ (n : ℕ). all n (Same (a .names .now) w i) ≡ true) (h .2 .taken) (h .1 .inv .3) in
+    h .3 ∙ sym (first-found f i (a .count) (h .1 .inv .2) whole (h .1 .inv .1)))
     (c .if1 .came)
 
 names-holds : tie.Need-names-holds Inv-loop μ-loop Inv-names μ-names
