@@ -4,10 +4,17 @@ use mathlib.Core.Bool.{Bool, true, false}
 use mathlib.Core.List.{List, [], _∷_}
 use Prim.Native.Nat.{ℕ, _+_, _-_, _≤_, _<_}
 use native.Mathlib.Omega.{arith}
+use lib.Dec.{ltb}
 use lib.ListN.{length, drop, take, length-take, length-drop}
+use types.Run.{OneOf}
+use denote.Enum.Declared as Declared
+use mathlib.Core.Logic.{⊎-elim}
 use Rattle.lists.proofs.TestLaws.{within-under, within-over, within-is}
 use Rattle.job.specs.Limits.{maxText}
-use Rattle.scan.specs.Lines.{Row, lines}
+use Rattle.scan.specs.Bytes.{wordAt}
+use Rattle.scan.specs.Lines.{Row, row, lines}
+use Rattle.scan.proofs.WordLaws.{word-fits}
+use Rattle.scan.proofs.LineLaws.{lines-at}
 use Rattle.fields.specs.Fields.{wholeLine, numberOf}
 use Rattle.fields.specs.FirstLine.{firstLine}
 use Rattle.fields.specs.declared.Field.{Field}
@@ -22,6 +29,9 @@ use Rattle.program.specs.declared.Draft.{Draft}
 use Rattle.program.specs.declared.Lined.{Lined}
 use Rattle.program.specs.declared.Next.{Next}
 use Rattle.program.specs.declared.Next.the-variants.{More}
+use Rattle.program.specs.declared.Next.the-variants.{Lemmas as AtLemmas}
+use Rattle.program.specs.declared.Next.the-variants.{No as NoLine}
+use Rattle.program.proofs.Next as N
 use Rattle.program.specs.declared.Outcome.{Outcome}
 
 -- ---- program lines
@@ -41,9 +51,25 @@ pub follow-more : (x : Next) (d : Draft) (n at : ℕ) (more : Draft → Outcome)
 unfolding follow
 follow-more x d n at more e = ap (λ (y : Next). follow y d n at more) e
 
--- the line from at to e has e - at bytes
-pub line-ends : (text : List ℕ) (at e : ℕ) → at ≤ e → e ≤ length text → at + length (take (e - at) (drop at text)) + 1 ≡ e + 1
-line-ends text at e h k = omega (arith, length-take (e - at) (drop at text), length-drop at text)
+-- the line from at to e has e - at bytes, and the text goes on behind it
+module _ (text : List ℕ) (at e : ℕ) (l : at < length text) (k : e ≡ at + length (wordAt 10 text at)) where
+  pub line-within : (at ≤ e) × (e ≤ length text)
+  line-within = (omega arith, omega (arith, word-fits 10 text at e k))
+
+  pub line-ends : at + length (take (e - at) (drop at text)) + 1 ≡ e + 1
+  line-ends = omega (arith, line-within, length-take (e - at) (drop at text), length-drop at text)
+
+  pub program-turn : (d : Draft) (n : ℕ) (r : Lined) → r ≡ lineOf d (row (take (e - at) (drop at text)) (ltb e (length text))) (n + 1)
+      → program d at n (lines (drop at text)) ≡ follow (r .next) (r .draft) (n + 1) (e + 1) λ x. program x (e + 1) (n + 1) (lines (drop (e + 1) text))
+  program-turn d n r h = ap (program d at n) (lines-at text at e l k) ∙ program-line d at n _ _ r (e + 1) h line-ends
+
+-- a line after which no program line is read
+pub not-more : (x : Next) → OneOf (1 ∷ 2 ∷ []) (Declared.tagOf N.the-type x) → (d : Draft) (n at : ℕ) (k k′ : Draft → Outcome)
+    → follow x d n at k ≡ follow x d n at k′
+unfolding follow
+not-more More h d n at k k′ = absurd (⊎-elim (λ (e : 0 ≡ 1). omega arith) (λ (e : 0 ≡ 2). omega arith) h)
+not-more AtLemmas h d n at k k′ = refl
+not-more (NoLine m) h d n at k k′ = refl
 
 -- ---- line 1
 
