@@ -1,1 +1,2 @@
--- The laws of the definitions.
+-- The laws of the definitions, and the definition evaluated.
+pub mod Examples
