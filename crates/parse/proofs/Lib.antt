@@ -1,2 +1,5 @@
--- The laws of the definitions, and the definition evaluated.
+-- The laws of the definitions, by file of the definitions, and the definition evaluated.
+pub mod AnswerLaws
+pub mod LabelLaws
+pub mod LemmaLaws
 pub mod Examples

@@ -1,0 +1,148 @@
+-- Laws of the checks at `lemmas`: one law for each way out, and what linking keeps.
+use mathlib.Core.Path.{_≡_, refl, sym, ap, _∙_, subst}
+use mathlib.Core.Bool.{Bool, true, false}
+use mathlib.Core.List.{List}
+use Prim.Native.Nat.{ℕ, zero, suc, _+_, _-_, _≤_, _<_}
+use native.Mathlib.Omega.{arith}
+use native.Mathlib.Numerals.{add-one}
+use native.Mathlib.Decide.{ℕ-discrete}
+use lib.Dec.{eqb}
+use Rattle.lists.specs.Rows.{num}
+use Rattle.job.specs.Fitness.{hasOther, bothCritical}
+use Rattle.job.specs.declared.Program.{Program}
+use Rattle.job.specs.declared.Refusal.{Refusal}
+use Rattle.scan.specs.Names.{lookup}
+use Rattle.scan.proofs.NameLaws.{lookup-below}
+use Rattle.scan.specs.declared.Found.{Found}
+use Rattle.scan.specs.declared.Found.the-variants.{At, Nothing}
+use Rattle.program.specs.declared.Draft.{Draft}
+use Rattle.parse.specs.Answers.{refusal, refuse, deny, accept, withoutLemmas, pick}
+use Rattle.parse.specs.Labels.{pickTarget, targetOf, aim, numberOf, linked, withTo, withOther, enterTo, enterOther, on, thenLink, pickLinked, linkStep, link, started}
+use Rattle.parse.specs.declared.Verdict.{Verdict}
+use Rattle.parse.specs.declared.Verdict.the-variants.{Accepted, Refused}
+use Rattle.parse.specs.declared.Reading.{Reading}
+use Rattle.parse.specs.declared.Target.{Target}
+use Rattle.parse.specs.declared.Target.the-variants.{Step, No}
+use Rattle.parse.specs.declared.Linked.{Linked}
+
+-- ---- one label
+
+module _ (process : List ℕ) (k : ℕ) (f : Found) where
+  pub is-unknown : f ≡ Nothing → No 30 ≡ targetOf process k f
+  unfolding targetOf
+  is-unknown e = ap (targetOf process k) (sym e)
+
+  pub is-own : (i : ℕ) → f ≡ At i → eqb (num process i) (num process k) ≡ true → Step (i + 1) ≡ targetOf process k f
+  unfolding targetOf
+  is-own i e h = ap (λ (b : Bool). pickTarget b (Step (i + 1)) (No 32)) (sym h) ∙ ap (targetOf process k) (sym e)
+
+  pub is-other : (i : ℕ) → f ≡ At i → eqb (num process i) (num process k) ≡ false → No 32 ≡ targetOf process k f
+  unfolding targetOf
+  is-other i e h = ap (λ (b : Bool). pickTarget b (Step (i + 1)) (No 32)) (sym h) ∙ ap (targetOf process k) (sym e)
+
+abbrev isStepped : Target → Type 0
+isStepped (Step i) = Unit {0}
+isStepped (No n) = ⊥
+
+abbrev stepIn : Target → ℕ
+stepIn (Step i) = i
+stepIn (No n) = 0
+
+not-step : {A : Type 0} (n i : ℕ) → No n ≡ Step i → A
+not-step n i e = absurd (subst (λ (t : Target). isStepped t) (sym e) tt)
+
+-- a label that is a step is one of the m steps, and of the same process
+pub target-is : (process labels : List ℕ) (m k : ℕ) (w : List ℕ) (i : ℕ) → targetOf process k (lookup labels m w) ≡ Step i
+    → (1 ≤ i) × (i ≤ m) × (eqb (num process (i - 1)) (num process k) ≡ true)
+unfolding targetOf
+target-is process labels m k w i e = go (lookup labels m w) refl e
+  where
+    own : (x : ℕ) → x < m → (b : Bool) → eqb (num process x) (num process k) ≡ b → pickTarget b (Step (x + 1)) (No 32) ≡ Step i
+        → (1 ≤ i) × (i ≤ m) × (eqb (num process (i - 1)) (num process k) ≡ true)
+    own x l true h g =
+        let y : x + 1 ≡ i = ap stepIn g in
+        let z : i - 1 ≡ x = omega arith in
+        (omega arith, omega arith, ap (λ (c : ℕ). eqb (num process c) (num process k)) z ∙ h)
+    own x l false h g = not-step 32 i g
+    go : (f : Found) → lookup labels m w ≡ f → targetOf process k f ≡ Step i
+        → (1 ≤ i) × (i ≤ m) × (eqb (num process (i - 1)) (num process k) ≡ true)
+    go Nothing h g = not-step 30 i g
+    go (At x) h g = own x (lookup-below labels m w x h) (eqb (num process x) (num process k)) refl g
+
+-- ---- the labels of a step
+
+module _ (P : Program) (k place : ℕ) (t t′ : Target) (e : t ≡ t′) where
+  pub to-no : (n r : ℕ) → t ≡ No n → r ≡ numberOf t → linked (refusal r place) P ≡ enterTo P k place t′
+  unfolding enterTo
+  to-no n r h g = ap (λ (x : ℕ). linked (refusal x place) P) (g ∙ ap numberOf h) ∙ ap (enterTo P k place) (sym h ∙ e)
+
+  pub to-step : (i : ℕ) → t ≡ Step i → linked Accepted (withTo P k i) ≡ enterTo P k place t′
+  unfolding enterTo
+  to-step i h = ap (enterTo P k place) (sym h ∙ e)
+
+  pub other-no : (n r : ℕ) → t ≡ No n → r ≡ numberOf t → linked (refusal r place) P ≡ enterOther P k place t′
+  unfolding enterOther
+  other-no n r h g = ap (λ (x : ℕ). linked (refusal x place) P) (g ∙ ap numberOf h) ∙ ap (enterOther P k place) (sym h ∙ e)
+
+  pub other-step : (i : ℕ) → t ≡ Step i → linked Accepted (withOther P k i) ≡ enterOther P k place t′
+  unfolding enterOther
+  other-step i h = ap (enterOther P k place) (sym h ∙ e)
+
+module _ (l l′ : Linked) (rest : Program → Linked) (e : l ≡ l′) where
+  pub link-on : l .verdict ≡ Accepted → rest (l .program) ≡ thenLink l′ rest
+  unfolding on
+  link-on h = ap (λ (v : Verdict). on v (l .program) rest) (sym h) ∙ ap (λ (x : Linked). thenLink x rest) e
+
+  pub link-ends : (q : Refusal) → l .verdict ≡ Refused q → linked (l .verdict) (l .program) ≡ thenLink l′ rest
+  unfolding on
+  link-ends q h =
+      ap (λ (v : Verdict). linked v (l .program)) h
+      ∙ ap (λ (v : Verdict). on v (l .program) rest) (sym h)
+      ∙ ap (λ (x : Linked). thenLink x rest) e
+
+pub picked-link : (b : Bool) (x y : Linked) → b ≡ true → x ≡ pickLinked b x y
+picked-link b x y e = ap (λ (z : Bool). pickLinked z x y) (sym e)
+
+pub passed-link : (b : Bool) (x y : Linked) → b ≡ false → y ≡ pickLinked b x y
+passed-link b x y e = ap (λ (z : Bool). pickLinked z x y) (sym e)
+
+-- ---- all steps
+
+pub link-none : (d : Draft) → link d 0 ≡ linked Accepted (d .program)
+unfolding link
+link-none d = refl
+
+pub link-next : (d : Draft) (k : ℕ) (P : Program) → link d k ≡ linked Accepted P → link d (k + 1) ≡ linkStep d k P
+unfolding link on
+link-next d k P e = ap (link d) (add-one k) ∙ ap (λ (l : Linked). thenLink l (linkStep d k)) e
+
+-- a step that is refused ends the linking
+pub link-stays : (d : Draft) (k m : ℕ) (q : Refusal) (P : Program) → link d k ≡ linked (Refused q) P → k ≤ m → link d m ≡ linked (Refused q) P
+unfolding link on
+link-stays d k zero q P e h = let z : k ≡ 0 = omega arith in ap (link d) (sym z) ∙ e
+link-stays d k (suc m) q P e h = go (ℕ-discrete k (suc m)) (λ l. link-stays d k m q P e l)
+  where
+    go : Dec (k ≡ suc m) → (k ≤ m → link d m ≡ linked (Refused q) P) → link d (suc m) ≡ linked (Refused q) P
+    go (yes x) g = ap (link d) (sym x) ∙ e
+    go (no x) g = ap (λ (l : Linked). thenLink l (linkStep d m)) (g (omega arith))
+
+-- ---- 55
+
+module _ (d : Draft) (n : ℕ) (l l′ : Linked) (e : l ≡ l′) where
+  pub start-no : (q : Refusal) → l .verdict ≡ Refused q → deny (l .verdict) ≡ started d n (l′ .verdict) (l′ .program)
+  unfolding started
+  start-no q h =
+      ap deny h
+      ∙ ap (λ (v : Verdict). started d n v (l .program)) (sym h)
+      ∙ ap (λ (x : Linked). started d n (x .verdict) (x .program)) e
+
+  start-by : l .verdict ≡ Accepted → pick (bothCritical (d .program)) (refuse 55 n) (accept (withoutLemmas d (l .program))) ≡ started d n (l′ .verdict) (l′ .program)
+  unfolding started
+  start-by h =
+      ap (λ (v : Verdict). started d n v (l .program)) (sym h) ∙ ap (λ (x : Linked). started d n (x .verdict) (x .program)) e
+
+  pub start-critical : l .verdict ≡ Accepted → bothCritical (d .program) ≡ true → refuse 55 n ≡ started d n (l′ .verdict) (l′ .program)
+  start-critical h b = ap (λ (z : Bool). pick z (refuse 55 n) (accept (withoutLemmas d (l .program)))) (sym b) ∙ start-by h
+
+  pub start-on : l .verdict ≡ Accepted → bothCritical (d .program) ≡ false → accept (withoutLemmas d (l .program)) ≡ started d n (l′ .verdict) (l′ .program)
+  start-on h b = ap (λ (z : Bool). pick z (refuse 55 n) (accept (withoutLemmas d (l .program)))) (sym b) ∙ start-by h
