@@ -1,14 +1,16 @@
 -- Laws of the checks at `lemmas`: one law for each way out, and what linking keeps.
 use mathlib.Core.Path.{_≡_, refl, sym, ap, _∙_, subst}
-use mathlib.Core.Bool.{Bool, true, false}
+use mathlib.Core.Bool.{Bool, true, false, _&&_}
 use mathlib.Core.List.{List}
 use Prim.Native.Nat.{ℕ, zero, suc, _+_, _-_, _≤_, _<_}
 use native.Mathlib.Omega.{arith}
 use native.Mathlib.Numerals.{add-one}
 use native.Mathlib.Decide.{ℕ-discrete}
+use borrow.Author.Tests.{lt-ltb, le-ltb}
 use lib.Dec.{eqb}
 use Rattle.lists.specs.Rows.{num}
-use Rattle.job.specs.Fitness.{hasOther, bothCritical}
+use Rattle.lists.specs.Places.{first}
+use Rattle.job.specs.Fitness.{hasOther, firstOf, bothCritical}
 use Rattle.job.specs.declared.Program.{Program}
 use Rattle.job.specs.declared.Refusal.{Refusal}
 use Rattle.scan.specs.Names.{lookup}
@@ -17,7 +19,7 @@ use Rattle.scan.specs.declared.Found.{Found}
 use Rattle.scan.specs.declared.Found.the-variants.{At, Nothing}
 use Rattle.program.specs.declared.Draft.{Draft}
 use Rattle.parse.specs.Answers.{refusal, refuse, deny, accept, withoutLemmas, pick}
-use Rattle.parse.specs.Labels.{pickTarget, targetOf, aim, numberOf, linked, withTo, withOther, enterTo, enterOther, on, thenLink, pickLinked, linkStep, link, started}
+use Rattle.parse.specs.Labels.{pickTarget, targetOf, aim, numberOf, linked, withTo, withOther, enterTo, enterOther, on, thenLink, pickLinked, linkStep, link, started, atLemmas}
 use Rattle.parse.specs.declared.Verdict.{Verdict}
 use Rattle.parse.specs.declared.Verdict.the-variants.{Accepted, Refused}
 use Rattle.parse.specs.declared.Reading.{Reading}
@@ -146,3 +148,23 @@ module _ (d : Draft) (n : ℕ) (l l′ : Linked) (e : l ≡ l′) where
 
   pub start-on : l .verdict ≡ Accepted → bothCritical (d .program) ≡ false → accept (withoutLemmas d (l .program)) ≡ started d n (l′ .verdict) (l′ .program)
   start-on h b = ap (λ (z : Bool). pick z (refuse 55 n) (accept (withoutLemmas d (l .program)))) (sym b) ∙ start-by h
+
+-- ---- 99, 98, and the rest
+
+module _ (d : Draft) (n a b : ℕ) (p : a ≡ first (d .program .steps) λ c. eqb (num (d .program .process) c) 1) (q : b ≡ first (d .program .steps) λ c. eqb (num (d .program .process) c) 2) where
+  pub critical-is : (eqb (num (d .program .kind) a) 2 && eqb (num (d .program .kind) b) 2) ≡ bothCritical (d .program)
+  unfolding bothCritical firstOf
+  critical-is = rw (p, q)
+
+  pub at-98 : a < d .program .steps → d .program .steps ≤ b → refuse 98 n ≡ atLemmas d n
+  unfolding atLemmas firstOf
+  at-98 h k = rw (← p, ← q, lt-ltb a (d .program .steps) h, le-ltb b (d .program .steps) k)
+
+  pub at-on : a < d .program .steps → b < d .program .steps
+      → started d n (link d (d .program .steps) .verdict) (link d (d .program .steps) .program) ≡ atLemmas d n
+  unfolding atLemmas firstOf
+  at-on h k = rw (← p, ← q, lt-ltb a (d .program .steps) h, lt-ltb b (d .program .steps) k)
+
+pub at-99 : (d : Draft) (n a : ℕ) → (a ≡ first (d .program .steps) λ c. eqb (num (d .program .process) c) 1) → d .program .steps ≤ a → refuse 99 n ≡ atLemmas d n
+unfolding atLemmas firstOf
+at-99 d n a p h = rw (← p, le-ltb a (d .program .steps) h)

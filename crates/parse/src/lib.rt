@@ -1,7 +1,7 @@
 // Reading a job text: its program, the checks at `lemmas`, and its lemmas.
 ghost use mathlib.Core.Path.{_≡_};
 ghost use Prim.Native.Nat.{ℕ, _+_, _*_, _<_, _≤_};
-ghost use mathlib.Core.Bool.{cond};
+ghost use mathlib.Core.Bool.{cond, _&&_};
 ghost use lib.Dec.{eqb};
 ghost use lib.IntN.{ℤ};
 ghost use lib.ListN.{length, drop};
@@ -210,6 +210,13 @@ fn first_of(process: &[u8; Job::STEPS], m: usize, p: u8) -> usize
     m
 }
 
+fn both_critical(kind: &[u8; Job::STEPS], a: usize, b: usize) -> bool
+    requires { ⌜ (a < maxSteps) × (b < maxSteps) ⌝ }
+    ensures { λ r. ⌜ r ≡ (eqb (num (now (kind .entry)) a) 2 && eqb (num (now (kind .entry)) b) 2) ⌝ }
+{
+    if kind[a] == 2 { kind[b] == 2 } else { false }
+}
+
 // What is checked at line n, `lemmas`.
 fn at_lemmas(d: Draft, n: usize) -> Reading
     requires { ⌜ d .program .steps ≤ maxSteps ⌝ }
@@ -230,10 +237,8 @@ fn at_lemmas(d: Draft, n: usize) -> Reading
     let Verdict::Accepted = v else {
         return denied(v);
     };
-    if own.kind[a] == 2 {
-        if own.kind[b] == 2 {
-            return refused(Reading::BOTH_CRITICAL, n);
-        }
+    if both_critical(&own.kind, a, b) {
+        return refused(Reading::BOTH_CRITICAL, n);
     }
     let job = without_lemmas(d, l.program);
     Reading { verdict: Verdict::Accepted, job }
