@@ -6,7 +6,7 @@ use Prim.Native.Nat.{ℕ, zero, suc, _+_, _-_, _≤_, _<_}
 use native.Mathlib.Omega.{arith}
 use native.Mathlib.Numerals.{add-one}
 use borrow.Author.Tests.{eq-eqb, ne-eqb, le-leb, lt-leb, eqb-false}
-use lib.Dec.{eqb, ltb, lit<}
+use lib.Dec.{eqb, ltb, leb, lit<}
 use lib.IntN.{ℤ, pos, negℤ, _-ℤ_, +ℤ-idl}
 use lib.ListN.{length, getD, drop, take, drop-of-length-le}
 use lib.Seq.{drop-cons, drop-drop, slice, slice-cons, length-slice}
@@ -16,7 +16,8 @@ use mir.ValLaws.{toZ-pos, toZ-ofZ}
 use Rattle.lists.specs.Rows.{num}
 use Rattle.lists.specs.Tests.{within}
 use Rattle.lists.proofs.TestLaws.{within-under, within-over, within-is}
-use Rattle.job.specs.Limits.{maxNames}
+use Rattle.job.specs.Limits.{maxLemmas, maxNames}
+use Rattle.job.specs.declared.Program.{Program}
 use Rattle.job.specs.declared.Job.{Job}
 use Rattle.scan.specs.Bytes.{upTo, wordAt, starts}
 use Rattle.scan.specs.Lines.{Row, row, lines}
@@ -25,12 +26,13 @@ use Rattle.scan.specs.declared.Found.{Found}
 use Rattle.scan.specs.declared.Found.the-variants.{At, Nothing}
 use Rattle.scan.proofs.NameLaws.{lookup-below}
 use Rattle.scan.proofs.LineLaws.{lines-at}
-use Rattle.fields.specs.Fields.{numberOf}
+use Rattle.fields.specs.Fields.{numberOf, wholeLine}
 use Rattle.fields.specs.declared.Field.{Field}
 use Rattle.fields.specs.declared.Field.the-variants.{Read, No}
 use Rattle.parse.specs.Answers.{refuse, accept, then, by, pick}
 use Rattle.parse.specs.Lemmas.{words, onto, bare, negated, itemAt, itemIn, itemOf, signed, withItem, closed, named, lemma, whole, lemmaLine, lemmaLines}
 use Rattle.parse.specs.declared.Reading.{Reading}
+use Rattle.parse.proofs.AnswerLaws.{Holds, pick-holds, then-holds}
 
 -- ---- signed items
 
@@ -167,3 +169,27 @@ pub lines-turn : (j : Job) (n : ℕ) (text : List ℕ) (at e : ℕ) → at < len
     ≡ then (lemmaLine j (row (take (e - at) (drop at text)) (ltb e (length text))) (n + 1)) λ x. lemmaLines x (n + 1) (lines (drop (e + 1) text))
 unfolding lemmaLines
 lines-turn j n text at e l k = ap (lemmaLines j n) (lines-at text at e l k)
+
+-- ---- lemmas leave the program as it is
+
+module _ (P : Program) where
+  abbrev Same : Job → Type 0
+  Same x = x .program ≡ P
+
+  whole-same : (f : Field) (n : ℕ) (r : Reading) → Holds Same r → Holds Same (whole f n r)
+  unfolding whole
+  whole-same Read n r h = h
+  whole-same (No k) n r h = tt
+
+  lemma-same : (j : Job) (n k : ℕ) (ws : List (List ℕ)) → j .program ≡ P → Holds Same (lemma j n k ws)
+  unfolding lemma named
+  lemma-same j n k [] e = pick-holds Same (eqb k 0) _ _ (λ _. tt) (λ _. e)
+  lemma-same j n k (w ∷ ws) e =
+      then-holds Same Same _ _
+      (pick-holds Same (leb maxNames k) _ _ (λ _. tt) (λ _. pick-holds Same (eqb (itemOf j (bare w)) 0) _ _ (λ _. tt) (λ _. e)))
+      (λ x h. lemma-same x n (k + 1) ws h)
+
+  pub line-same : (j : Job) (l : Row) (n : ℕ) → j .program ≡ P → Holds Same (lemmaLine j l n)
+  unfolding lemmaLine
+  line-same j l n e =
+      whole-same (wholeLine l) n _ (pick-holds Same (leb maxLemmas (j .lemmas)) _ _ (λ _. tt) (λ _. lemma-same j n 0 (words (l .bytes)) e))
