@@ -7,10 +7,11 @@ use native.Mathlib.Omega.{arith}
 use native.Mathlib.Numerals.{add-one}
 use native.Mathlib.Decide.{ℕ-discrete}
 use borrow.Author.Tests.{lt-ltb, le-ltb}
-use lib.Dec.{eqb}
+use lib.Dec.{eqb, ltb}
 use Rattle.lists.specs.Rows.{num}
 use Rattle.lists.specs.Places.{first}
 use Rattle.job.specs.Fitness.{hasOther, firstOf, bothCritical}
+use Rattle.job.specs.declared.Job.{Job}
 use Rattle.job.specs.declared.Program.{Program}
 use Rattle.job.specs.declared.Refusal.{Refusal}
 use Rattle.scan.specs.Names.{lookup}
@@ -26,6 +27,7 @@ use Rattle.parse.specs.declared.Reading.{Reading}
 use Rattle.parse.specs.declared.Target.{Target}
 use Rattle.parse.specs.declared.Target.the-variants.{Step, No}
 use Rattle.parse.specs.declared.Linked.{Linked}
+use Rattle.parse.proofs.AnswerLaws.{Holds, pick-holds}
 
 -- ---- one label
 
@@ -168,3 +170,58 @@ module _ (d : Draft) (n a b : ℕ) (p : a ≡ first (d .program .steps) λ c. eq
 pub at-99 : (d : Draft) (n a : ℕ) → (a ≡ first (d .program .steps) λ c. eqb (num (d .program .process) c) 1) → d .program .steps ≤ a → refuse 99 n ≡ atLemmas d n
 unfolding atLemmas firstOf
 at-99 d n a p h = rw (← p, le-ltb a (d .program .steps) h)
+
+-- ---- linking changes labels only
+
+abbrev pub Steady : Program → Program → Type 0
+Steady P Q =
+    (Q .bound ≡ P .bound) × (Q .steps ≡ P .steps) × (Q .variables ≡ P .variables) × (Q .process ≡ P .process)
+    × (Q .kind ≡ P .kind) × (Q .variable ≡ P .variable) × (Q .value ≡ P .value)
+
+module _ (P : Program) where
+  steady-to : (Q : Program) (k place : ℕ) (t : Target) → Steady P Q → Steady P (enterTo Q k place t .program)
+  unfolding enterTo
+  steady-to Q k place (Step i) h = h
+  steady-to Q k place (No n) h = h
+
+  steady-other : (Q : Program) (k place : ℕ) (t : Target) → Steady P Q → Steady P (enterOther Q k place t .program)
+  unfolding enterOther
+  steady-other Q k place (Step i) h = h
+  steady-other Q k place (No n) h = h
+
+  steady-then : (l : Linked) (rest : Program → Linked) → Steady P (l .program) → ((Q : Program) → Steady P Q → Steady P (rest Q .program)) → Steady P (thenLink l rest .program)
+  unfolding on
+  steady-then l rest h k = go (l .verdict)
+    where
+      go : (v : Verdict) → Steady P (on v (l .program) rest .program)
+      go Accepted = k (l .program) h
+      go (Refused q) = h
+
+  steady-pick : (b : Bool) (x y : Linked) → Steady P (x .program) → Steady P (y .program) → Steady P (pickLinked b x y .program)
+  steady-pick true x y h k = h
+  steady-pick false x y h k = k
+
+pub link-steady : (d : Draft) (k : ℕ) → Steady (d .program) (link d k .program)
+unfolding link linkStep
+link-steady d zero = (refl, refl, refl, refl, refl, refl, refl)
+link-steady d (suc k) =
+    steady-then (d .program) (link d k) _ (link-steady d k) λ Q h.
+    steady-then (d .program) _ _ (steady-to (d .program) Q k _ _ h) λ R g.
+    steady-pick (d .program) (hasOther (num (d .program .kind) k)) _ _ (steady-other (d .program) R k _ _ g) g
+
+-- a table that passes the checks has the program linked
+pub started-holds : (I : Job → Type 0) (d : Draft) (n : ℕ)
+    → (ltb (firstOf (d .program) 1) (d .program .steps) ≡ true → ltb (firstOf (d .program) 2) (d .program .steps) ≡ true
+        → link d (d .program .steps) .verdict ≡ Accepted → bothCritical (d .program) ≡ false
+        → I (withoutLemmas d (link d (d .program .steps) .program)))
+    → Holds I (atLemmas d n)
+unfolding atLemmas started
+started-holds I d n h =
+    pick-holds I (ltb (firstOf (d .program) 1) (d .program .steps)) _ _
+    (λ a. pick-holds I (ltb (firstOf (d .program) 2) (d .program .steps)) _ _ (λ b. go a b (link d (d .program .steps) .verdict) refl) (λ _. tt))
+    (λ _. tt)
+  where
+    go : ltb (firstOf (d .program) 1) (d .program .steps) ≡ true → ltb (firstOf (d .program) 2) (d .program .steps) ≡ true
+        → (v : Verdict) → link d (d .program .steps) .verdict ≡ v → Holds I (started d n v (link d (d .program .steps) .program))
+    go a b Accepted e = pick-holds I (bothCritical (d .program)) _ _ (λ _. tt) (λ c. h a b e c)
+    go a b (Refused q) e = tt

@@ -2,4 +2,5 @@
 pub mod AnswerLaws
 pub mod LabelLaws
 pub mod LemmaLaws
+pub mod ReadingLaws
 pub mod Examples
