@@ -68,6 +68,7 @@ target-is process labels m k w i e = go (lookup labels m w) refl e
         let z : i - 1 ≡ x = omega arith in
         (omega arith, omega arith, ap (λ (c : ℕ). eqb (num process c) (num process k)) z ∙ h)
     own x l false h g = not-step 32 i g
+
     go : (f : Found) → lookup labels m w ≡ f → targetOf process k f ≡ Step i
         → (1 ≤ i) × (i ≤ m) × (eqb (num process (i - 1)) (num process k) ≡ true)
     go Nothing h g = not-step 30 i g
@@ -212,8 +213,8 @@ link-steady d (suc k) =
 -- a table that passes the checks has the program linked
 pub started-holds : (I : Job → Type 0) (d : Draft) (n : ℕ)
     → (ltb (firstOf (d .program) 1) (d .program .steps) ≡ true → ltb (firstOf (d .program) 2) (d .program .steps) ≡ true
-        → link d (d .program .steps) .verdict ≡ Accepted → bothCritical (d .program) ≡ false
-        → I (withoutLemmas d (link d (d .program .steps) .program)))
+    → link d (d .program .steps) .verdict ≡ Accepted → bothCritical (d .program) ≡ false
+    → I (withoutLemmas d (link d (d .program .steps) .program)))
     → Holds I (atLemmas d n)
 unfolding atLemmas started
 started-holds I d n h =

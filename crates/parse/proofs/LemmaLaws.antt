@@ -64,6 +64,7 @@ word-first b (c ∷ cs) h = rw (ne-eqb b 32 h) (go (eqb c 32) refl (word-first c
     short : (c : ℕ) (cs : List ℕ) (ws : List (List ℕ)) → eqb c 32 ≡ true → onto b (c ∷ cs) ws ≡ (b ∷ []) ∷ ws
     short c cs [] e = refl
     short c cs (w ∷ ws) e = rw e
+
     go : (t : Bool) → eqb c 32 ≡ t → ((c ≡ 32 → ⊥) → words (c ∷ cs) ≡ upTo 32 (c ∷ cs) ∷ words (drop (length (upTo 32 (c ∷ cs))) (c ∷ cs)))
         → onto b (c ∷ cs) (words (c ∷ cs)) ≡ (b ∷ upTo 32 (c ∷ cs)) ∷ words (drop (length (upTo 32 (c ∷ cs))) (c ∷ cs))
     go true e g =

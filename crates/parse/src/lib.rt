@@ -104,7 +104,13 @@ fn refused(number: u8, place: usize) -> Reading
 }
 
 // The label of step k among names, looked up among the labels of the m steps.
-fn aim<'a>(labels: &'a [u8; 4 * Job::STEPS], process: &'a [u8; Job::STEPS], names: &'a [u8; 4 * Job::STEPS], m: usize, k: usize) -> Target
+fn aim<'a>(
+    labels: &'a [u8; 4 * Job::STEPS],
+    process: &'a [u8; Job::STEPS],
+    names: &'a [u8; 4 * Job::STEPS],
+    m: usize,
+    k: usize,
+) -> Target
     requires { ⌜ (m ≤ maxSteps) × (k < maxSteps) ⌝ }
     ensures { λ r. ⌜ r ≡ targetOf (now (process .entry)) k (lookup (now (labels .entry)) m (slice (k * 4) (k * 4 + 4) (now (names .entry)))) ⌝ }
 {
@@ -136,11 +142,17 @@ fn link_to(d: Draft, p: Program, k: usize) -> Linked
     let own = d.program;
     let t = aim(&d.labels, &own.process, &d.to, own.steps, k);
     let Target::Step(i) = t else {
-        return Linked { verdict: refusal(number(t), d.line[k]), program: p };
+        return Linked {
+            verdict: refusal(number(t), d.line[k]),
+            program: p,
+        };
     };
     let mut q = p;
     q.to[k] = i as u16;
-    Linked { verdict: Verdict::Accepted, program: q }
+    Linked {
+        verdict: Verdict::Accepted,
+        program: q,
+    }
 }
 
 // M of step k is entered.
@@ -151,11 +163,17 @@ fn link_other(d: Draft, p: Program, k: usize) -> Linked
     let own = d.program;
     let t = aim(&d.labels, &own.process, &d.other, own.steps, k);
     let Target::Step(i) = t else {
-        return Linked { verdict: refusal(number(t), d.line[k]), program: p };
+        return Linked {
+            verdict: refusal(number(t), d.line[k]),
+            program: p,
+        };
     };
     let mut q = p;
     q.other[k] = i as u16;
-    Linked { verdict: Verdict::Accepted, program: q }
+    Linked {
+        verdict: Verdict::Accepted,
+        program: q,
+    }
 }
 
 // L and then, of an if, M of step k.
@@ -188,11 +206,17 @@ fn link(d: Draft) -> Linked
         let v = l.verdict;
         p = l.program;
         let Verdict::Accepted = v else {
-            return Linked { verdict: v, program: p };
+            return Linked {
+                verdict: v,
+                program: p,
+            };
         };
         k += 1;
     }
-    Linked { verdict: Verdict::Accepted, program: p }
+    Linked {
+        verdict: Verdict::Accepted,
+        program: p,
+    }
 }
 
 // The first step of a process, or m.
@@ -241,7 +265,10 @@ fn at_lemmas(d: Draft, n: usize) -> Reading
         return refused(Reading::BOTH_CRITICAL, n);
     }
     let job = without_lemmas(d, l.program);
-    Reading { verdict: Verdict::Accepted, job }
+    Reading {
+        verdict: Verdict::Accepted,
+        job,
+    }
 }
 
 // Where the name of the word at at begins: behind its `~`.
@@ -253,7 +280,15 @@ fn bare_at(s: &[u8], at: usize) -> usize
 }
 
 // The item of the name from from to to, of m steps and n variables, or 0.
-fn item_of<'a>(labels: &'a [u8; 4 * Job::STEPS], names: &'a [u8; 4 * Job::STEPS], m: usize, n: usize, s: &[u8], from: usize, to: usize) -> usize
+fn item_of<'a>(
+    labels: &'a [u8; 4 * Job::STEPS],
+    names: &'a [u8; 4 * Job::STEPS],
+    m: usize,
+    n: usize,
+    s: &[u8],
+    from: usize,
+    to: usize,
+) -> usize
     requires { ⌜ (m ≤ maxSteps) × (n ≤ maxSteps) × (to ≤ length (now s)) ⌝ }
     ensures { λ r. ⌜ r ≡ itemIn (now (labels .entry)) (now (names .entry)) m n (slice from to (now (s .entry))) ⌝ }
 {
@@ -299,7 +334,15 @@ fn lemma_of(start: Job, s: &[u8], n: usize) -> Reading
             return refused(Reading::MANY_NAMES, n);
         }
         let from = bare_at(s, at);
-        let i = item_of(&j.labels, &j.names, j.program.steps, j.program.variables, s, from, e);
+        let i = item_of(
+            &j.labels,
+            &j.names,
+            j.program.steps,
+            j.program.variables,
+            s,
+            from,
+            e,
+        );
         if i == 0 {
             return refused(Reading::NAME_UNKNOWN, n);
         }
@@ -315,7 +358,10 @@ fn lemma_of(start: Job, s: &[u8], n: usize) -> Reading
     let l = j.lemmas;
     j.lengths[l] = k as u8;
     j.lemmas = l + 1;
-    Reading { verdict: Verdict::Accepted, job: j }
+    Reading {
+        verdict: Verdict::Accepted,
+        job: j,
+    }
 }
 
 // Line n behind `lemmas`, whose LF is there or not.
@@ -352,7 +398,10 @@ fn lemma_lines(text: &[u8], from: usize, before: usize, start: Job) -> Reading
         at = e + 1;
         n += 1;
     }
-    Reading { verdict: Verdict::Accepted, job: j }
+    Reading {
+        verdict: Verdict::Accepted,
+        job: j,
+    }
 }
 
 fn stopped(end: End) -> Reading

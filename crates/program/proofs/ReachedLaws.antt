@@ -62,6 +62,7 @@ module _ (I : Draft → ℕ → ℕ → Type 0)
             → Reached I (opened f λ r. program (blank r) (length (l .bytes) + 1) 1 ls)
         begins (Bound r) e = program-reached (blank r) _ 1 ls (first (l .bytes) r e (length (l .bytes)))
         begins (WrongLine k) e = tt
+
         read : (g : Field) (f : FirstLine) → firstLine (l .bytes) (record { line = 1; column = 0 }) ≡ f
             → Reached I (whole g (opened f λ r. program (blank r) (length (l .bytes) + 1) 1 ls))
         read Read f e = begins f e
@@ -86,6 +87,7 @@ reached-size text = go (within 1 maxText (length text)) refl
         by : (e : End) → Kept (λ d n at. length text ≤ maxText) e (o .draft)
         by (Lemmas n at) = h
         by (Refused k p) = tt
+
     go : (b : Bool) → within 1 maxText (length text) ≡ b → Reached (λ d n at. length text ≤ maxText) (pick b (fromLine1 (lines text)) (refuse 1 0))
     go true e = all (fromLine1 (lines text)) (is-within 1 maxText (length text) e .1)
     go false e = tt

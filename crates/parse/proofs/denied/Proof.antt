@@ -1,4 +1,4 @@
-use Rattle.parse.specs.declared.Reading.{Reading}
+-- `denied` gives the verdict beside the table of zeros.
 use Rattle.parse.specs.Answers.{withoutLemmas}
 use Rattle.program.specs.declared.Draft.{Draft}
 use Rattle.job.specs.declared.Job.{Job}
@@ -6,20 +6,13 @@ use mathlib.Core.Path.{_∙_, ap}
 use borrow.Author.Needs.{needs}
 use Rattle.parse.proofs.denied.Statement.{statement}
 use Rattle.parse.proofs.denied.Tie as tie
-use Rattle.parse.proofs.denied.Reads as reads
-use Rattle.parse.proofs.denied.Lts as lts
-use Rattle.parse.proofs.without_lemmas.Reads as without-lemmas-reads
-use Rattle.program.proofs.blank.Reads as blank-reads
 
--- src/lib.rt:95:9
 blank-requires : tie.Need-blank-requires
 blank-requires c κs = search needs
 
--- src/lib.rt:96:9
 without-lemmas-requires : tie.Need-without-lemmas-requires
 without-lemmas-requires c κs = search needs
 
--- src/lib.rt:92:1
 returns : tie.Need-returns
 returns c = let v = c .before .before .args .verdict in
     ap (λ (j : Job). record { verdict = v; job = j }) (c .without-lemmas .ensures ∙ ap (λ (d : Draft). withoutLemmas d (d .program)) (c .before .blank .ensures))

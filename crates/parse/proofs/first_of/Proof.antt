@@ -1,3 +1,4 @@
+-- `first_of` finds the first step of a process: none of those passed is one.
 use Rattle.lists.proofs.PlaceLaws.{first-zero, first-none, first-found}
 use Rattle.lists.specs.Places.{first}
 use Rattle.lists.specs.Rows.{num}
@@ -9,8 +10,6 @@ use mathlib.Core.Path.{_≡_, sym, subst}
 use borrow.Author.Needs.{needs}
 use Rattle.parse.proofs.first_of.Statement.{statement}
 use Rattle.parse.proofs.first_of.Tie as tie
-use Rattle.parse.proofs.first_of.Reads as reads
-use Rattle.parse.proofs.first_of.Lts as lts
 
 abbrev Inv-loop : tie.InvT-loop
 Inv-loop process m p i₀ i = (i ≤ m) × (first i (λ c. eqb (num process c) p) ≡ i)
@@ -18,33 +17,26 @@ Inv-loop process m p i₀ i = (i ≤ m) × (first i (λ c. eqb (num process c) p
 abbrev μ-loop : tie.MeasureT-loop
 μ-loop process m p i₀ i = m - i
 
--- src/lib.rt:204:5
 loop-holds : tie.Need-loop-holds Inv-loop μ-loop
 loop-holds c = (omega arith, first-zero (λ n. eqb (num (c .args .process .now) n) (c .args .p)))
 
--- src/lib.rt:205:12
 element-copy-out-if1 : tie.Need-element-copy-out-if1 Inv-loop μ-loop
 element-copy-out-if1 c = search needs
 
--- src/lib.rt:206:13
 returns : tie.Need-returns Inv-loop μ-loop
 returns c = let a = c .before .before .before .before .args in
     sym (first-found (λ n. eqb (num (a .process .now) n) (a .p)) (c .before .before .before .loop .i) (a .m) (c .before .before .before .loop .inv .1) (eq-eqb _ _ (c .if1 .taken)) (omega arith))
 
--- src/lib.rt:208:9
 add-i : tie.Need-add-i Inv-loop μ-loop
 add-i c = search needs
 
--- src/lib.rt:204:5
 loop-less : tie.Need-loop-less Inv-loop μ-loop
 loop-less c = search needs
 
--- src/lib.rt:204:5
 loop-again : tie.Need-loop-again Inv-loop μ-loop
 loop-again c = let a = c .before .before .before .before .args in
     (omega arith, first-none (λ n. eqb (num (a .process .now) n) (a .p)) (c .before .before .before .loop .i) (c .before .before .before .loop .inv .1) (ne-eqb _ _ (c .if1 .left)))
 
--- src/lib.rt:199:1
 returns-2 : tie.Need-returns-2 Inv-loop μ-loop
 returns-2 c = let a = c .before .before .args in
     let e : c .before .loop .i ≡ a .m = omega arith in

@@ -1,4 +1,5 @@
-use mathlib.Core.Path.{_≡_, ap, _∙_, sym}
+-- `item_of` looks a name of 1 to 4 bytes up among the steps and then among the variables.
+use mathlib.Core.Path.{ap, _∙_, sym}
 use native.Mathlib.Omega.{arith}
 use lib.Seq.{slice}
 use Rattle.scan.specs.declared.Found.{Found}

@@ -1,3 +1,4 @@
+-- `lemma_line` tests 2, 3, 4 and 41, and then reads the lemma.
 use Rattle.parse.proofs.LemmaLaws.{is-whole, no-line}
 use Rattle.parse.proofs.AnswerLaws.{picked, passed}
 use Rattle.parse.specs.Lemmas.{lemmaLine}
@@ -6,51 +7,36 @@ use mathlib.Core.Path.{_∙_}
 use borrow.Author.Needs.{needs}
 use Rattle.parse.proofs.lemma_line.Statement.{statement}
 use Rattle.parse.proofs.lemma_line.Tie as tie
-use Rattle.parse.proofs.lemma_line.Reads as reads
-use Rattle.parse.proofs.lemma_line.Lts as lts
-use Rattle.fields.proofs.line.Reads as line-reads
-use Rattle.fields.proofs.number.Reads as number-reads
-use Rattle.parse.proofs.lemma_of.Reads as lemma-of-reads
-use Rattle.parse.proofs.refused.Reads as refused-reads
 
--- src/lib.rt:321:9
 line-requires : tie.Need-line-requires
 line-requires c κs = search needs
 
 enum-told : tie.Need-enum-told
 enum-told c = search needs
 
--- src/lib.rt:323:24
 enum-told-2 : tie.Need-enum-told-2
 enum-told-2 c = search needs
 
--- src/lib.rt:323:24
 number-requires : tie.Need-number-requires
 number-requires c κs = search needs
 
--- src/lib.rt:323:9
 refused-requires : tie.Need-refused-requires
 refused-requires c κs = search needs
 
--- src/lib.rt:323:9
 returns : tie.Need-returns
 unfolding lemmaLine
 returns c = c .refused .ensures ∙ no-line (c .before .before .before .before .line .result) _ (c .before .before .before .before .before .before .args .n) _ (c .before .before .before .before .line .ensures) _ _ (c .before .before .enum-told2 .given .1) (c .before .number .ensures)
 
--- src/lib.rt:326:9
 refused-requires-2 : tie.Need-refused-requires-2
 refused-requires-2 c κs = search needs
 
--- src/lib.rt:326:9
 returns-2 : tie.Need-returns-2
 unfolding lemmaLine
 returns-2 c = c .refused2 .ensures ∙ picked _ _ _ (le-leb _ _ (c .before .if1 .taken)) ∙ is-whole (c .before .before .before .before .before .line .result) _ (c .before .before .before .before .before .before .before .args .n) _ (c .before .before .before .before .before .line .ensures) (c .before .before .before .enum-told .given .1)
 
--- src/lib.rt:328:5
 lemma-of-requires : tie.Need-lemma-of-requires
 lemma-of-requires c κs = search needs
 
--- src/lib.rt:317:1
 returns-3 : tie.Need-returns-3
 unfolding lemmaLine
 returns-3 c = c .lemma-of .ensures ∙ passed _ _ _ (lt-leb _ _ (c .before .if1 .left)) ∙ is-whole (c .before .before .before .before .before .line .result) _ (c .before .before .before .before .before .before .before .args .n) _ (c .before .before .before .before .before .line .ensures) (c .before .before .before .enum-told .given .1)

@@ -1,3 +1,4 @@
+-- `lemma_lines` reads line by line: what is left from here gives the answer of the whole.
 use Rattle.job.specs.declared.Job.{Job}
 use Rattle.parse.proofs.LemmaLaws.{lines-none, lines-turn, line-same}
 use Rattle.parse.proofs.AnswerLaws.{Holds, holds-of, goes-on, ends-here}
@@ -11,16 +12,11 @@ use Rattle.job.specs.declared.Program.{Program}
 use Rattle.job.specs.Limits.{maxSteps}
 use lib.ListN.{length, drop}
 use native.Mathlib.Omega.{arith}
-use Prim.Native.Nat.{ℕ, _+_, _-_, _≤_, _<_}
+use Prim.Native.Nat.{_+_, _-_, _≤_, _<_}
 use mathlib.Core.Path.{_≡_, refl, _∙_, sym, ap, subst}
 use borrow.Author.Needs.{needs}
 use Rattle.parse.proofs.lemma_lines.Statement.{statement}
 use Rattle.parse.proofs.lemma_lines.Tie as tie
-use Rattle.parse.proofs.lemma_lines.Reads as reads
-use Rattle.parse.proofs.lemma_lines.Lts as lts
-use Rattle.parse.proofs.denied.Reads as denied-reads
-use Rattle.parse.proofs.lemma_line.Reads as lemma-line-reads
-use Rattle.scan.proofs.end_of.Reads as end-of-reads
 
 abbrev Inv-loop : tie.InvT-loop
 Inv-loop text from before at₀ n₀ j₀ at n j =
@@ -57,31 +53,24 @@ turn c rest h =
     ∙ ap (λ (r : Reading). then r λ x. lemmaLines x (o .loop .n + 1) (lines (drop (e + 1) (a .text .now)))) (c .lemma-line .ensures)
     ∙ sym (o .loop .inv .2 ∙ lines-turn (o .loop .j) (o .loop .n) (a .text .now) (o .loop .at) e l (c .before .before .end-of .ensures))
 
--- src/lib.rt:339:5
 loop-holds : tie.Need-loop-holds Inv-loop μ-loop
 loop-holds c = (c .before .pre .1, refl, refl)
 
--- src/lib.rt:340:13
 end-of-requires : tie.Need-end-of-requires Inv-loop μ-loop
 end-of-requires c κs = search needs
 
--- src/lib.rt:341:31
 sub-lemma-line : tie.Need-sub-lemma-line Inv-loop μ-loop
 sub-lemma-line c = omega (arith, ends c)
 
--- src/lib.rt:341:31
 part-lemma-line-start : tie.Need-part-lemma-line-start Inv-loop μ-loop
 part-lemma-line-start c = omega (arith, ends c)
 
--- src/lib.rt:341:31
 part-lemma-line-end : tie.Need-part-lemma-line-end Inv-loop μ-loop
 part-lemma-line-end c = ends c .1
 
--- src/lib.rt:341:61
 add-lemma-line : tie.Need-add-lemma-line Inv-loop μ-loop
 add-lemma-line c = search needs
 
--- src/lib.rt:341:13
 lemma-line-requires : tie.Need-lemma-line-requires Inv-loop μ-loop
 lemma-line-requires c κs = let p = c .before .before .before .before .before .pre in
     let e = sym (c .before .before .before .loop .inv .1) in
@@ -90,37 +79,29 @@ lemma-line-requires c κs = let p = c .before .before .before .before .before .p
 enum-told : tie.Need-enum-told Inv-loop μ-loop
 enum-told c = search needs
 
--- src/lib.rt:345:13
 enum-told-2 : tie.Need-enum-told-2 Inv-loop μ-loop
 enum-told-2 c = search needs
 
--- src/lib.rt:345:13
 denied-requires : tie.Need-denied-requires Inv-loop μ-loop
 denied-requires c κs = search needs
 
--- src/lib.rt:345:13
 returns : tie.Need-returns Inv-loop μ-loop
 returns c = c .denied .ensures ∙ turn (c .before .before .before .before) _ (ends-here (c .before .before .before .before .lemma-line .result) _ _ refl (c .before .enum-told2 .given .0 .0) (c .before .enum-told2 .given .1))
 
--- src/lib.rt:347:14
 add-at : tie.Need-add-at Inv-loop μ-loop
 add-at c = omega (arith, ends (c .before .before .before .before .before), c .before .before .before .before .before .before .before .before .before .pre)
 
--- src/lib.rt:348:9
 add-n : tie.Need-add-n Inv-loop μ-loop
 add-n c = search needs
 
--- src/lib.rt:339:5
 loop-less : tie.Need-loop-less Inv-loop μ-loop
 loop-less c = omega (arith, ends (c .before .before .before .before .before))
 
--- src/lib.rt:339:5
 loop-again : tie.Need-loop-again Inv-loop μ-loop
 loop-again c = let e = ends (c .before .before .before .before .before) in
     let r = c .before .before .before .lemma-line .result in
     (omega (arith, e, c .before .before .before .before .before .before .before .loop .inv .0), holds-of _ r (same (c .before .before .before)) (c .enum-told .given .1), sym (turn (c .before .before .before) _ (goes-on r _ _ refl (c .enum-told .given .1))))
 
--- src/lib.rt:332:1
 returns-2 : tie.Need-returns-2 Inv-loop μ-loop
 returns-2 c = let none = lines-out (c .before .before .before .args .text .now) (c .before .loop .at) (omega arith) in
     sym (c .before .loop .inv .2 ∙ ap (lemmaLines (c .before .loop .j) (c .before .loop .n)) none ∙ lines-none (c .before .loop .j) (c .before .loop .n))

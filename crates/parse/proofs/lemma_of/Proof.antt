@@ -1,3 +1,4 @@
+-- `lemma_of` reads word by word: what is left from here gives the answer of the whole.
 use mir.Val.{toZ, ofZ}
 use Rattle.parse.proofs.LemmaLaws.{words-space, words-word, words-end, bare-part, sign-part, item-most, lemma-44, lemma-43, lemma-on, lemma-42, lemma-done}
 use Rattle.parse.specs.Lemmas.{lemma, words, itemOf, withItem, signed as signedItem, bare, negated}
@@ -14,17 +15,10 @@ use native.Mathlib.Omega.{arith}
 use Prim.Native.Nat.{ℕ, _≤_, _<_, _-_, _+_}
 use mathlib.Core.List.{List, [], _∷_}
 use mathlib.Core.Bool.{Bool}
-use mathlib.Core.Path.{_≡_, ap, _∙_, sym, subst}
+use mathlib.Core.Path.{_≡_, ap, _∙_, sym}
 use borrow.Author.Needs.{needs}
 use Rattle.parse.proofs.lemma_of.Statement.{statement}
 use Rattle.parse.proofs.lemma_of.Tie as tie
-use Rattle.parse.proofs.lemma_of.Reads as reads
-use Rattle.parse.proofs.lemma_of.Lts as lts
-use Rattle.parse.proofs.bare_at.Reads as bare-at-reads
-use Rattle.parse.proofs.item_of.Reads as item-of-reads
-use Rattle.parse.proofs.refused.Reads as refused-reads
-use Rattle.parse.proofs.signed.Reads as signed-reads
-use Rattle.scan.proofs.end_of.Reads as end-of-reads
 
 abbrev Inv-loop : tie.InvT-loop
 Inv-loop s n j₀ k₀ at₀ j k at =
@@ -81,23 +75,18 @@ stored c =
     let sign = sym (sign-part (o .before .before .args .s .now) (o .loop .at) (f .end-of .result) (ends f .0) (ends f .1)) ∙ ap negated (part f) in
     toZ-ofZ w16 _ (record { sfits = c .signed .ok }) ∙ c .signed .ensures ∙ ap (λ (b : Bool). signedItem b (c .before .before .before .item-of .result)) sign
 
--- src/lib.rt:287:5
 loop-holds : tie.Need-loop-holds Inv-loop μ-loop
 loop-holds c = search needs
 
--- src/lib.rt:288:12
 shared-slice-read-if1 : tie.Need-shared-slice-read-if1 Inv-loop μ-loop
 shared-slice-read-if1 c = search needs
 
--- src/lib.rt:289:13
 add-at : tie.Need-add-at Inv-loop μ-loop
 add-at c = search needs
 
--- src/lib.rt:287:5
 loop-less : tie.Need-loop-less Inv-loop μ-loop
 loop-less c = search needs
 
--- src/lib.rt:287:5
 loop-again : tie.Need-loop-again Inv-loop μ-loop
 loop-again c = let a = c .before .before .before .before .before .args in
     let o = c .before .before .loop-test in
@@ -106,104 +95,87 @@ loop-again c = let a = c .before .before .before .before .before .args in
     let i = c .before .before .before .loop .inv in
     (omega arith, i .1, i .2, i .3, i .4, i .5 ∙ ap (lemma (c .before .before .before .loop .j) (a .n) (c .before .before .before .loop .k)) next)
 
--- src/lib.rt:292:13
 end-of-requires : tie.Need-end-of-requires Inv-loop μ-loop
 end-of-requires c κs = search needs
 
--- src/lib.rt:294:13
 refused-requires : tie.Need-refused-requires Inv-loop μ-loop
 refused-requires c κs = search needs
 
--- src/lib.rt:294:13
 returns : tie.Need-returns Inv-loop μ-loop
 returns c = c .refused .ensures ∙ lemma-44 (c .before .before .before .before .before .before .loop .j) (c .before .before .before .before .before .before .before .before .args .n) (c .before .before .before .before .before .before .loop .k) _ _ (c .before .if2 .taken) ∙ sym (turn (c .before .before))
 
--- src/lib.rt:296:13
 bare-at-requires : tie.Need-bare-at-requires Inv-loop μ-loop
 bare-at-requires c κs = search needs
 
--- src/lib.rt:297:13
 item-of-requires : tie.Need-item-of-requires Inv-loop μ-loop
 item-of-requires c κs = let i = c .before .before .before .before .before .before .before .before .before .loop .inv in (i .3, i .4, ends (c .before .before .before .before .before) .1)
 
--- src/lib.rt:299:13
 refused-requires-2 : tie.Need-refused-requires-2 Inv-loop μ-loop
 refused-requires-2 c κs = search needs
 
--- src/lib.rt:299:13
 returns-2 : tie.Need-returns-2 Inv-loop μ-loop
 returns-2 c = c .refused2 .ensures ∙ lemma-43 (c .before .before .before .before .before .before .before .before .before .before .before .before .loop .j) (c .before .before .before .before .before .before .before .before .before .before .before .before .before .before .args .n) (c .before .before .before .before .before .before .before .before .before .before .before .before .loop .k) _ _ (c .before .before .before .before .before .before .before .if2 .left) (item (c .before .before) ∙ c .before .if3 .taken) ∙ sym (turn (c .before .before .before .before .before .before .before .before))
 
--- src/lib.rt:301:24
 shared-slice-read-signed : tie.Need-shared-slice-read-signed Inv-loop μ-loop
 shared-slice-read-signed c = search needs
 
--- src/lib.rt:301:13
 signed-requires : tie.Need-signed-requires Inv-loop μ-loop
 signed-requires c κs = let j = c .before .before .before .before .before .before .before .before .before .before .before .before .loop .j in
     let w = slice (c .before .before .before .before .before .before .bare-at .result) (c .before .before .before .before .before .before .before .before .end-of .result) (c .before .before .before .before .before .before .before .before .before .before .before .before .before .before .args .s .now) in
     omega (arith, c .before .before .item-of .ensures, item-most (j .labels) (j .names) (j .program .steps) (j .program .variables) w, c .before .before .before .before .before .before .before .before .before .before .before .before .loop .inv)
 
--- src/lib.rt:303:17
 mul-z : tie.Need-mul-z Inv-loop μ-loop
 mul-z c = search needs
 
--- src/lib.rt:303:17
 add-z : tie.Need-add-z Inv-loop μ-loop
 add-z c = search needs
 
--- src/lib.rt:303:9
 mul-z-2 : tie.Need-mul-z-2 Inv-loop μ-loop
 mul-z-2 c = search needs
 
--- src/lib.rt:303:9
 element-set-from-z : tie.Need-element-set-from-z Inv-loop μ-loop
 element-set-from-z c = search needs
 
--- src/lib.rt:304:9
 add-k : tie.Need-add-k Inv-loop μ-loop
 add-k c = search needs
 
--- src/lib.rt:287:5
 loop-less-2 : tie.Need-loop-less-2 Inv-loop μ-loop
 loop-less-2 c = omega (arith, ends (c .before .before .before .before .before .before .before .before .before))
 
--- src/lib.rt:287:5
 loop-again-2 : tie.Need-loop-again-2 Inv-loop μ-loop
 loop-again-2 c = let o = c .before .before .before .before .before .before .before .before .before .before .before .before .before in
     let a = c .before .before .before .before .before .before .before .before .before .before .before .before .before .before .before .args in
     let e = ends (c .before .before .before .before .before .before .before .before .before) in
     let i = o .loop .inv in
-    let rest = words (drop (c .before .before .before .before .before .before .before .before .before .end-of .result) (a .s .now)) in
-    (e .1, omega (arith, c .before .before .before .before .before .before .before .before .if2 .left), i .2, i .3, i .4,
-    turn (c .before .before .before .before .before .before .before .before .before)
-    ∙ lemma-on (o .loop .j) (a .n) (o .loop .k) _ _ (c .before .before .before .item-of .result) (c .before .before .before .before .before .before .before .before .if2 .left) (item (c .before .before .before)) (c .before .before .if3 .left)
-    ∙ ap (λ (z : ℤ). lemma (withItem (o .loop .j) (o .loop .k) z) (a .n) (o .loop .k + 1) rest) (sym (stored c)))
+    let rest = words (drop (c .before .before .before .before .before .before .before .before .before .end-of .result) (a .s .now)) in (
+      e .1,
+      omega (arith, c .before .before .before .before .before .before .before .before .if2 .left),
+      i .2,
+      i .3,
+      i .4,
+      turn (c .before .before .before .before .before .before .before .before .before)
+          ∙ lemma-on (o .loop .j) (a .n) (o .loop .k) _ _ (c .before .before .before .item-of .result) (c .before .before .before .before .before .before .before .before .if2 .left) (item (c .before .before .before)) (c .before .before .if3 .left)
+          ∙ ap (λ (z : ℤ). lemma (withItem (o .loop .j) (o .loop .k) z) (a .n) (o .loop .k + 1) rest) (sym (stored c)),
+    )
 
--- src/lib.rt:308:9
 refused-requires-3 : tie.Need-refused-requires-3 Inv-loop μ-loop
 refused-requires-3 c κs = search needs
 
--- src/lib.rt:308:9
 returns-3 : tie.Need-returns-3 Inv-loop μ-loop
 returns-3 c = let o = c .before .before .before .loop .inv in
     let none = words-end (c .before .before .before .before .before .args .s .now) (c .before .before .before .loop .at) (omega arith) in
     c .refused3 .ensures ∙ lemma-42 (c .before .before .before .loop .j) (c .before .before .before .before .before .args .n)
     ∙ sym (o .5 ∙ ap (lemma (c .before .before .before .loop .j) (c .before .before .before .before .before .args .n) (c .before .before .before .loop .k)) none ∙ ap (λ (k : ℕ). lemma (c .before .before .before .loop .j) (c .before .before .before .before .before .args .n) k []) (c .before .if4 .taken))
 
--- src/lib.rt:311:20
 cast-j : tie.Need-cast-j Inv-loop μ-loop
 cast-j c = search needs
 
--- src/lib.rt:311:5
 element-write-j : tie.Need-element-write-j Inv-loop μ-loop
 element-write-j c = search needs
 
--- src/lib.rt:312:16
 add-j : tie.Need-add-j Inv-loop μ-loop
 add-j c = search needs
 
--- src/lib.rt:280:1
 returns-4 : tie.Need-returns-4 Inv-loop μ-loop
 returns-4 c = let none = words-end (c .before .before .before .before .args .s .now) (c .before .before .loop .at) (omega arith) in
     lemma-done (c .before .before .loop .j) (c .before .before .before .before .args .n) (c .before .before .loop .k) (c .if4 .left)

@@ -1,16 +1,14 @@
+-- `link` goes step by step: the steps passed are linked, and a refusal stays.
 use Rattle.parse.proofs.LabelLaws.{link-none, link-next, link-stays}
-use Rattle.parse.specs.declared.Verdict.the-variants.{Accepted, Refused}
+use Rattle.parse.specs.declared.Verdict.the-variants.{Accepted}
 use Rattle.parse.specs.declared.Verdict.{Verdict}
 use Rattle.parse.specs.Labels.{linked, link}
 use native.Mathlib.Omega.{arith}
-use Prim.Native.Nat.{ℕ, _-_, _≤_}
+use Prim.Native.Nat.{_-_, _≤_}
 use mathlib.Core.Path.{_≡_, _∙_, sym, ap}
 use borrow.Author.Needs.{needs}
 use Rattle.parse.proofs.link.Statement.{statement}
 use Rattle.parse.proofs.link.Tie as tie
-use Rattle.parse.proofs.link.Reads as reads
-use Rattle.parse.proofs.link.Lts as lts
-use Rattle.parse.proofs.link_step.Reads as link-step-reads
 
 abbrev Inv-loop : tie.InvT-loop
 Inv-loop d p₀ m k₀ p k = (k ≤ d .program .steps) × (link d k ≡ linked Accepted p)
@@ -18,42 +16,34 @@ Inv-loop d p₀ m k₀ p k = (k ≤ d .program .steps) × (link d k ≡ linked A
 abbrev μ-loop : tie.MeasureT-loop
 μ-loop d p₀ m k₀ p k = d .program .steps - k
 
--- src/lib.rt:186:5
 loop-holds : tie.Need-loop-holds Inv-loop μ-loop
 loop-holds c = (omega arith, link-none (c .before .args .d))
 
--- src/lib.rt:187:13
 link-step-requires : tie.Need-link-step-requires Inv-loop μ-loop
 link-step-requires c κs = search needs
 
 enum-told : tie.Need-enum-told Inv-loop μ-loop
 enum-told c = search needs
 
--- src/lib.rt:191:13
 enum-told-2 : tie.Need-enum-told-2 Inv-loop μ-loop
 enum-told-2 c = search needs
 
--- src/lib.rt:191:13
 returns : tie.Need-returns Inv-loop μ-loop
 returns c = let d = c .before .before .before .before .before .before .before .args .d in
     let told = ap (λ (v : Verdict). linked v (c .before .before .before .link-step .result .program)) (c .enum-told2 .given .1) in
     let here = link-next d (c .before .before .before .before .before .loop .k) (c .before .before .before .before .before .loop .p) (c .before .before .before .before .before .loop .inv .1) ∙ sym (c .before .before .before .link-step .ensures) ∙ told in
     told ∙ sym (link-stays d _ (d .program .steps) (c .enum-told2 .given .0 .0) _ here (omega arith))
 
--- src/lib.rt:193:9
 add-k : tie.Need-add-k Inv-loop μ-loop
 add-k c = search needs
 
--- src/lib.rt:186:5
 loop-less : tie.Need-loop-less Inv-loop μ-loop
 loop-less c = search needs
 
--- src/lib.rt:186:5
 loop-again : tie.Need-loop-again Inv-loop μ-loop
 loop-again c = let told = ap (λ (v : Verdict). linked v (c .before .before .before .link-step .result .program)) (c .enum-told .given .1) in
     (omega arith, link-next (c .before .before .before .before .before .before .before .args .d) (c .before .before .before .before .before .loop .k) (c .before .before .before .before .before .loop .p) (c .before .before .before .before .before .loop .inv .1) ∙ sym (c .before .before .before .link-step .ensures) ∙ told)
 
--- src/lib.rt:179:1
 returns-2 : tie.Need-returns-2 Inv-loop μ-loop
 returns-2 c = let e : c .before .loop .k ≡ c .before .before .before .args .d .program .steps = omega arith in
     sym (c .before .loop .inv .1) ∙ ap (link (c .before .before .before .args .d)) e

@@ -1,70 +1,54 @@
+-- `link_other` enters M, a step of this job, or refuses the step's line.
 use Rattle.parse.proofs.LabelLaws.{target-is, other-no, other-step}
 use Rattle.parse.specs.declared.Verdict.{Verdict}
 use Rattle.parse.specs.Labels.{linked, aim}
 use lib.Seq.{slice}
-use Prim.Native.Nat.{ℕ, _+_, _*_}
+use Prim.Native.Nat.{_+_, _*_}
 use native.Mathlib.Omega.{arith}
 use mathlib.Core.Path.{_∙_, sym, ap}
 use borrow.Author.Needs.{needs}
 use Rattle.parse.proofs.link_other.Statement.{statement}
 use Rattle.parse.proofs.link_other.Tie as tie
-use Rattle.parse.proofs.link_other.Reads as reads
-use Rattle.parse.proofs.link_other.Lts as lts
-use Rattle.parse.proofs.aim.Reads as aim-reads
-use Rattle.parse.proofs.number.Reads as number-reads
-use Rattle.parse.proofs.refusal.Reads as refusal-reads
 
--- src/lib.rt:152:9
 aim-requires : tie.Need-aim-requires
 aim-requires c κs = search needs
 
--- src/lib.rt:153:22
 enum-known-t : tie.Need-enum-known-t
 enum-known-t c = search needs
 
--- src/lib.rt:154:42
 enum-told : tie.Need-enum-told
 enum-told c = search needs
 
--- src/lib.rt:154:42
 number-requires : tie.Need-number-requires
 number-requires c κs = search needs
 
--- src/lib.rt:154:53
 mul-refusal : tie.Need-mul-refusal
 mul-refusal c = search needs
 
--- src/lib.rt:154:53
 element-copy-out-refusal : tie.Need-element-copy-out-refusal
 element-copy-out-refusal c = search needs
 
--- src/lib.rt:154:34
 refusal-requires : tie.Need-refusal-requires
 refusal-requires c κs = search needs
 
--- src/lib.rt:154:9
 returns : tie.Need-returns
 unfolding aim
 returns c = let p = c .before .before .before .before .before .before .before .before .before .before .before .before .args .p in
     ap (λ (v : Verdict). linked v p) (c .refusal .ensures)
     ∙ other-no p (c .before .before .before .before .before .before .before .before .before .before .before .before .args .k) _ (c .before .before .before .before .before .aim .result) _ (c .before .before .before .before .before .aim .ensures) _ _ (c .before .before .before .enum-told .given .1) (c .before .before .number .ensures)
 
--- src/lib.rt:157:18
 cast-q : tie.Need-cast-q
 cast-q c = let d = c .before .before .before .before .before .before .before .before .before .before .args .t1 in
     let k = c .before .before .before .before .before .before .before .before .before .before .args .k in
     let w = slice (k * 4) (k * 4 + 4) (d .other) in
     omega (arith, target-is (d .program .process) (d .labels) (d .program .steps) k w (c .before .t .given .0 .0) (sym (c .before .before .before .aim .ensures) ∙ c .before .t .given .1), c .before .before .before .before .before .before .before .before .before .before .pre)
 
--- src/lib.rt:157:5
 mul-q : tie.Need-mul-q
 mul-q c = search needs
 
--- src/lib.rt:157:5
 element-write-q : tie.Need-element-write-q
 element-write-q c = search needs
 
--- src/lib.rt:147:1
 returns-2 : tie.Need-returns-2
 unfolding aim
 returns-2 c = other-step (c .before .before .before .before .before .before .before .before .before .before .args .p) (c .before .before .before .before .before .before .before .before .before .before .args .k) _ (c .before .before .before .aim .result) _ (c .before .before .before .aim .ensures) (c .before .t .given .0 .0) (c .before .t .given .1)

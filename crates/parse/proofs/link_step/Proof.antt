@@ -1,50 +1,38 @@
-use mathlib.Core.Path.{ap}
+-- `link_step` enters L and then, of an if, M.
+use mathlib.Core.Path.{ap, _∙_}
 use Rattle.parse.proofs.LabelLaws.{link-on, link-ends, picked-link, passed-link}
-use Rattle.parse.specs.declared.Verdict.the-variants.{Accepted}
 use Rattle.parse.specs.declared.Verdict.{Verdict}
 use Rattle.parse.specs.Labels.{linkStep, linked}
 use borrow.Author.Tests.{eq-eqb, ne-eqb}
-use mathlib.Core.Path.{_∙_}
 use borrow.Author.Needs.{needs}
 use Rattle.parse.proofs.link_step.Statement.{statement}
 use Rattle.parse.proofs.link_step.Tie as tie
-use Rattle.parse.proofs.link_step.Reads as reads
-use Rattle.parse.proofs.link_step.Lts as lts
-use Rattle.parse.proofs.link_other.Reads as link-other-reads
-use Rattle.parse.proofs.link_to.Reads as link-to-reads
 
--- src/lib.rt:166:9
 link-to-requires : tie.Need-link-to-requires
 link-to-requires c κs = search needs
 
 enum-told : tie.Need-enum-told
 enum-told c = search needs
 
--- src/lib.rt:169:9
 enum-told-2 : tie.Need-enum-told-2
 enum-told-2 c = search needs
 
--- src/lib.rt:169:9
 returns : tie.Need-returns
 unfolding linkStep
 returns c = link-ends (c .before .before .link-to .result) _ _ (c .before .before .link-to .ensures) (c .enum-told2 .given .0 .0) (c .enum-told2 .given .1)
 
--- src/lib.rt:172:8
 element-copy-out-if1 : tie.Need-element-copy-out-if1
 element-copy-out-if1 c = search needs
 
--- src/lib.rt:173:9
 link-other-requires : tie.Need-link-other-requires
 link-other-requires c κs = search needs
 
--- src/lib.rt:173:9
 returns-2 : tie.Need-returns-2
 unfolding linkStep
 returns-2 c = c .link-other .ensures
     ∙ picked-link _ _ _ (eq-eqb _ _ (c .before .if1 .taken))
     ∙ link-on (c .before .before .before .before .before .before .link-to .result) _ _ (c .before .before .before .before .before .before .link-to .ensures) (c .before .before .before .before .enum-told .given .1)
 
--- src/lib.rt:162:1
 returns-3 : tie.Need-returns-3
 unfolding linkStep
 returns-3 c = ap (λ (v : Verdict). linked v (c .before .before .before .before .before .link-to .result .program)) (c .before .before .before .enum-told .given .1)

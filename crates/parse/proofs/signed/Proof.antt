@@ -1,3 +1,4 @@
+-- `signed` gives the item its sign; it is small enough for both.
 use mathlib.Core.Path.{ap, _∙_, sym}
 use native.Mathlib.Omega.{arith}
 use mathlib.Core.Bool.{Bool}

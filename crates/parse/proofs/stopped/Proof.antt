@@ -1,33 +1,25 @@
+-- `stopped` gives the refusal of a program part.
 use Rattle.parse.specs.Reading.{stop}
 use mathlib.Core.Path.{_∙_, ap, sym}
 use borrow.Author.Needs.{needs}
 use Rattle.parse.proofs.stopped.Statement.{statement}
 use Rattle.parse.proofs.stopped.Tie as tie
-use Rattle.parse.proofs.stopped.Reads as reads
-use Rattle.parse.proofs.stopped.Lts as lts
-use Rattle.parse.proofs.refused.Reads as refused-reads
 
--- src/lib.rt:357:30
 enum-told : tie.Need-enum-told
 enum-told c = search needs
 
--- src/lib.rt:357:30
 refused-requires : tie.Need-refused-requires
 refused-requires c κs = search needs
 
--- src/lib.rt:358:22
 enum-known-end : tie.Need-enum-known-end
 enum-known-end c = search needs
 
--- src/lib.rt:358:40
 refused-requires-2 : tie.Need-refused-requires-2
 refused-requires-2 c κs = search needs
 
--- src/lib.rt:353:1
 returns : tie.Need-returns
 returns c = c .refused .ensures ∙ ap stop (sym (c .before .enum-told .given .1))
 
--- src/lib.rt:353:1
 returns-2 : tie.Need-returns-2
 returns-2 c = c .refused2 .ensures ∙ ap stop (sym (c .before .before .end .given .1))
 
