@@ -1,2 +1,6 @@
--- The proof of demand 3 and of the marked cases, and the laws of the definitions.
+-- The proof of demand 3 (start at Accuracy) and of the marked cases, and the laws of the definitions.
 pub mod Good
+pub mod SatLaws
+pub mod ExclusionLaws
+pub mod MeaningLaws
+pub mod TurnLaws
