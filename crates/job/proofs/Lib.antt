@@ -4,3 +4,5 @@ pub mod SatLaws
 pub mod ExclusionLaws
 pub mod MeaningLaws
 pub mod TurnLaws
+pub mod StandLaws
+pub mod Sound
