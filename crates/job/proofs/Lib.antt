@@ -6,3 +6,4 @@ pub mod MeaningLaws
 pub mod TurnLaws
 pub mod StandLaws
 pub mod Sound
+pub mod Complete
