@@ -7,3 +7,6 @@ pub mod TurnLaws
 pub mod StandLaws
 pub mod Sound
 pub mod Complete
+pub mod ValueLaws
+pub mod FitnessLaws
+pub mod Accuracy
