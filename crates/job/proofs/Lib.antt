@@ -10,3 +10,7 @@ pub mod Complete
 pub mod ValueLaws
 pub mod FitnessLaws
 pub mod Accuracy
+pub mod MarkedCases
+pub mod OneBitListing
+pub mod LargerListing
+pub mod Listings
