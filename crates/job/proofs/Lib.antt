@@ -14,3 +14,4 @@ pub mod MarkedCases
 pub mod OneBitListing
 pub mod LargerListing
 pub mod Listings
+pub mod Examples
