@@ -1,5 +1,6 @@
 -- The proof of demand 3 (start at Accuracy) and of the marked cases, and the laws of the definitions.
 pub mod Good
+pub mod FitnessLaws
 pub mod SatLaws
 pub mod ExclusionLaws
 pub mod MeaningLaws
@@ -8,7 +9,6 @@ pub mod StandLaws
 pub mod Sound
 pub mod Complete
 pub mod ValueLaws
-pub mod FitnessLaws
 pub mod Accuracy
 pub mod MarkedCases
 pub mod OneBitListing
