@@ -10,6 +10,7 @@ pub mod Sound
 pub mod Complete
 pub mod ValueLaws
 pub mod Accuracy
+pub mod Lengths
 pub mod MarkedCases
 pub mod OneBitListing
 pub mod LargerListing
