@@ -5,7 +5,6 @@ mod faults; // faults.rt: a table with one place changed
 use faults::Place;
 use faults::changed;
 use job::Job;
-use job::Refusal;
 use libc::STDOUT_FILENO;
 use tables::four_steps;
 use tables::largest;
