@@ -1,0 +1,2 @@
+-- A reading as C lays it out.
+pub mod Foreign
