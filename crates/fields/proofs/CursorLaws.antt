@@ -23,7 +23,7 @@ abbrev isNo : Field → Type 0
 isNo Read = ⊥
 isNo (No n) = Unit {0}
 
-not-read : {A : Type 0} (n : ℕ) → No n ≡ Read → A
+pub not-read : {A : Type 0} (n : ℕ) → No n ≡ Read → A
 not-read n e = absurd (subst (λ (f : Field). isNo f) e tt)
 
 -- behind a name stands its end

@@ -3,3 +3,4 @@ pub mod FieldLaws
 pub mod CursorLaws
 pub mod FirstLineLaws
 pub mod StepLineLaws
+pub mod ShapeLaws

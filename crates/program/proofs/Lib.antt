@@ -3,3 +3,5 @@ pub mod DraftLaws
 pub mod ProgramLineLaws
 pub mod ProgramLaws
 pub mod ReachedLaws
+pub mod PutLaws
+pub mod DraftFits
