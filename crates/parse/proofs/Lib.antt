@@ -3,4 +3,7 @@ pub mod AnswerLaws
 pub mod LabelLaws
 pub mod LemmaLaws
 pub mod ReadingLaws
+pub mod LinkFits
+pub mod LemmaFits
+pub mod AcceptedFit
 pub mod Examples

@@ -33,7 +33,7 @@ use Rattle.program.specs.declared.Draft.{Draft}
 use Rattle.program.specs.declared.Lined.{Lined}
 use Rattle.program.proofs.ProgramLineLaws.{pick-all, whole-all}
 use Rattle.program.proofs.ReachedLaws.{Reached, reached}
-use Rattle.program.proofs.PutLaws.{Put, put-set, put-none}
+use Rattle.program.proofs.PutLaws.{Put, put-set, put-none, same-at}
 
 -- ---- one step, by its numbers: process, kind, variable, value, and how many variables were mentioned before
 
@@ -73,12 +73,6 @@ unfolding mentioned
 mentioned-same P Q zero h = refl
 mentioned-same P Q (suc c) h = rw (mentioned-same P Q c (λ i l. h i (omega arith)), h c (omega arith))
 
-zero-at : (n i : ℕ) → num (replicate n 0) i ≡ 0
-zero-at zero zero = refl
-zero-at zero (suc i) = refl
-zero-at (suc n) zero = refl
-zero-at (suc n) (suc i) = zero-at n i
-
 pub blank-drafted : (r : ℕ) → within 1 maxBound r ≡ true → Drafted (blank r .program)
 unfolding blank mentioned
 blank-drafted r h = record {
@@ -91,8 +85,8 @@ blank-drafted r h = record {
   variable-size = length-replicate {0} {A = ℕ} maxSteps 0;
   value-size = length-replicate {0} {A = ℕ} maxSteps 0;
   used = λ c l. absurd (omega arith);
-  unused = λ c l. (zero-at maxSteps c, zero-at maxSteps c, zero-at maxSteps c, zero-at maxSteps c);
-  unlinked = λ c. (zero-at maxSteps c, zero-at maxSteps c);
+  unused = λ c l. (same-at maxSteps c 0, same-at maxSteps c 0, same-at maxSteps c 0, same-at maxSteps c 0);
+  unlinked = λ c. (same-at maxSteps c 0, same-at maxSteps c 0);
   counted = refl;
 }
 
@@ -154,7 +148,7 @@ module _ (P Q : Program) (p k x v : ℕ) (D : Drafted P) (M : More P Q p k x v) 
 
 -- ---- the step of a line
 
-larger-first : (a b : ℕ) → b ≤ a → a ≡ larger a b
+pub larger-first : (a b : ℕ) → b ≤ a → a ≡ larger a b
 unfolding larger
 larger-first a b h = rw (le-ltb a b h)
 

@@ -1,8 +1,8 @@
 -- One place of a list is written: that place has the new number, every other keeps its own.
 use mathlib.Core.Path.{_≡_, refl}
 use mathlib.Core.List.{List}
-use Prim.Native.Nat.{ℕ, _<_}
-use lib.ListN.{length, getD, set, length-set}
+use Prim.Native.Nat.{ℕ, zero, suc, _<_}
+use lib.ListN.{length, getD, set, replicate, length-set}
 use lib.Seq.{getD-set-same, getD-set-other}
 use Rattle.lists.specs.Rows.{num}
 
@@ -15,3 +15,10 @@ put-set l k x h = (length-set l k x, getD-set-same l k x 0 h, λ c n. getD-set-o
 -- what is there already
 pub put-none : (l : List ℕ) (k x : ℕ) → num l k ≡ x → Put l l k x
 put-none l k x e = (refl, e, λ c n. refl)
+
+-- a list of one value has it at each place, and past its end by default
+pub same-at {ℓ} : {A : Type ℓ} (n i : ℕ) (a : A) → getD (replicate n a) i a ≡ a
+same-at zero zero a = refl
+same-at zero (suc i) a = refl
+same-at (suc n) zero a = refl
+same-at (suc n) (suc i) a = same-at n i a

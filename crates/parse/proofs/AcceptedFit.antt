@@ -1,0 +1,130 @@
+-- An accepted text gives a fit table, and so demand 3 holds of it: `accepted-fit` and `accepted-accurate`, at the end.
+use mathlib.Core.Path.{_≡_, refl, sym, ap, _∙_, subst}
+use mathlib.Core.Bool.{Bool, true, false}
+use mathlib.Core.List.{List, [], _∷_}
+use Prim.Native.Nat.{ℕ, _+_, _≤_, _<_}
+use native.Mathlib.Omega.{arith}
+use borrow.Author.Tests.{le-leb, leb-false, eqb-false}
+use lib.Dec.{eqb, leb, ltb}
+use lib.ListN.{drop}
+use Rattle.lists.specs.Tests.{every}
+use Rattle.lists.proofs.TestLaws.{pass}
+use Rattle.job.specs.Limits.{maxLemmas, maxNames}
+use Rattle.job.specs.Fitness.{firstOf, bothCritical, programFits, fit}
+use Rattle.job.specs.Accuracy.{Accurate}
+use Rattle.job.proofs.Accuracy.{accuracy}
+use Rattle.job.specs.declared.Job.{Job}
+use Rattle.job.specs.declared.Program.{Program}
+use Rattle.scan.specs.Lines.{Row, lines}
+use Rattle.fields.specs.Fields.{wholeLine}
+use Rattle.fields.specs.declared.Field.{Field}
+use Rattle.fields.specs.declared.Field.the-variants.{Read, No}
+use Rattle.program.specs.Program.{programOf}
+use Rattle.program.specs.declared.Draft.{Draft}
+use Rattle.program.specs.declared.End.{End}
+use Rattle.program.specs.declared.End.the-variants.{Lemmas}
+use Rattle.program.specs.declared.End.the-variants.{Refused as Ended}
+use Rattle.program.proofs.DraftFits.{Drafted, reached-drafted}
+use Rattle.program.proofs.ReachedLaws.{Kept as DraftKept}
+use Rattle.parse.specs.Answers.{withoutLemmas}
+use Rattle.parse.specs.Labels.{link, atLemmas}
+use Rattle.parse.specs.Lemmas.{words, bare, negated, itemOf, signed, lemma, whole, lemmaLine, lemmaLines}
+use Rattle.parse.specs.Lemmas.{named as namedIn}
+use Rattle.parse.specs.Reading.{fromLemmas, reading}
+use Rattle.parse.specs.declared.Verdict.{Verdict}
+use Rattle.parse.specs.declared.Verdict.the-variants.{Accepted, Refused}
+use Rattle.parse.specs.declared.Reading.{Reading}
+use Rattle.parse.proofs.AnswerLaws.{Holds, pick-holds, then-holds, holds-of}
+use Rattle.parse.proofs.LabelLaws.{link-steady, started-holds}
+use Rattle.parse.proofs.LemmaLaws.{item-most}
+use Rattle.parse.proofs.LinkFits.{Linking, link-linked, steady-is, linked-fits}
+use Rattle.parse.proofs.LinkFits.{Kept as LinkKept}
+use Rattle.parse.proofs.LemmaFits.{Entered, Open, none-entered, entered-fits, opened, named, closed-entered, signed-fits}
+
+-- ---- what holds between two lemma lines, and within one
+
+abbrev items : Job → ℕ
+items j = j .program .steps + j .program .variables
+
+record Ready (j : Job) : Type 0 where
+  program : programFits (j .program) ≡ true
+  lemmas : Entered (items j) (j .lengths) (j .items) (j .lemmas)
+
+record Within (k : ℕ) (j : Job) : Type 0 where
+  program : programFits (j .program) ≡ true
+  names : Open (items j) (j .lengths) (j .items) (j .lemmas) k
+
+ready-fits : (j : Job) → Ready j → fit j ≡ true
+unfolding fit
+ready-fits j R =
+    pass _ (R .program, (le-leb (j .lemmas) maxLemmas (R .lemmas .few), (entered-fits (items j) (j .lengths) (j .items) (j .lemmas) (R .lemmas), tt)))
+
+-- ---- at `lemmas`
+
+program-ready : (d : Draft) → Drafted (d .program) → ltb (firstOf (d .program) 1) (d .program .steps) ≡ true
+    → ltb (firstOf (d .program) 2) (d .program .steps) ≡ true → link d (d .program .steps) .verdict ≡ Accepted → bothCritical (d .program) ≡ false
+    → Ready (withoutLemmas d (link d (d .program .steps) .program))
+unfolding withoutLemmas
+program-ready d D a b v c =
+    let P = d .program in
+    let l = link d (P .steps) in
+    let Q = l .program in
+    let linking : Linking P (P .steps) (Q .to) (Q .other) =
+    subst (λ (x : Verdict). LinkKept (λ R. Linking P (P .steps) (R .to) (R .other)) x Q) v (link-linked d D (P .steps) (omega arith)) in
+    record {
+      program = subst (λ (R : Program). programFits R ≡ true) (steady-is P Q (link-steady d (P .steps))) (linked-fits P (Q .to) (Q .other) D linking a b c);
+      lemmas = none-entered (Q .steps + Q .variables);
+    }
+
+-- ---- lemma lines
+
+lemma-ready : (j : Job) (n k : ℕ) (ws : List (List ℕ)) → Within k j → Holds Ready (lemma j n k ws)
+unfolding lemma namedIn
+lemma-ready j n k [] W =
+    pick-holds Ready (eqb k 0) _ _ (λ _. tt)
+    (λ e. record { program = W .program; lemmas = closed-entered (items j) (j .lengths) (j .items) (j .lemmas) k (W .names) (eqb-false k 0 e) })
+lemma-ready j n k (w ∷ ws) W =
+    let i = itemOf j (bare w) in
+    let most = item-most (j .labels) (j .names) (j .program .steps) (j .program .variables) (bare w) in
+    then-holds Ready (Within (k + 1)) _ _
+    (pick-holds (Within (k + 1)) (leb maxNames k) _ _ (λ _. tt)
+    (λ l. pick-holds (Within (k + 1)) (eqb i 0) _ _ (λ _. tt)
+    (λ e. record {
+      program = W .program;
+      names = named (items j) (j .lengths) (j .items) (j .lemmas) k (W .names) (signed (negated w) i) (leb-false maxNames k l) (signed-fits (items j) i (negated w) (eqb-false i 0 e) most);
+    })))
+    (λ e h. lemma-ready e n (k + 1) ws h)
+
+whole-ready : (f : Field) (n : ℕ) (r : Reading) → Holds Ready r → Holds Ready (whole f n r)
+unfolding whole
+whole-ready Read n r h = h
+whole-ready (No k) n r h = tt
+
+line-ready : (j : Job) (l : Row) (n : ℕ) → Ready j → Holds Ready (lemmaLine j l n)
+unfolding lemmaLine
+line-ready j l n R =
+    whole-ready (wholeLine l) n _
+    (pick-holds Ready (leb maxLemmas (j .lemmas)) _ _ (λ _. tt)
+    (λ e. lemma-ready j n 0 (words (l .bytes)) (record { program = R .program; names = opened (items j) (j .lengths) (j .items) (j .lemmas) (R .lemmas) (leb-false maxLemmas (j .lemmas) e) })))
+
+lines-ready : (j : Job) (n : ℕ) (ls : List Row) → Ready j → Holds Ready (lemmaLines j n ls)
+unfolding lemmaLines
+lines-ready j n [] R = R
+lines-ready j n (l ∷ ls) R = then-holds Ready Ready _ _ (line-ready j l (n + 1) R) (λ e h. lines-ready e (n + 1) ls h)
+
+-- ---- the whole
+
+reading-ready : (text : List ℕ) → Holds Ready (reading text)
+unfolding reading fromLemmas
+reading-ready text = go (programOf text .end) (programOf text .draft) (reached-drafted text)
+  where
+    go : (e : End) (d : Draft) → DraftKept (λ d n at. Drafted (d .program)) e d → Holds Ready (fromLemmas text e d)
+    go (Lemmas n at) d D = then-holds Ready Ready (atLemmas d n) _ (started-holds Ready d n (program-ready d D)) (λ j h. lines-ready j n (lines (drop at text)) h)
+    go (Ended k p) d D = tt
+
+pub accepted-fit : (text : List ℕ) → reading text .verdict ≡ Accepted → fit (reading text .job) ≡ true
+accepted-fit text e = ready-fits (reading text .job) (holds-of Ready (reading text) (reading-ready text) e)
+
+-- demand 3 of texts: its clauses and its runs, of every text that is accepted
+pub accepted-accurate : (text : List ℕ) → reading text .verdict ≡ Accepted → Accurate (reading text .job)
+accepted-accurate text e = accuracy (reading text .job) (accepted-fit text e)
