@@ -1,4 +1,4 @@
--- What the definitions of every crate share: rows that grow at the end, tests, and the place of the first test that fails.
+-- What the definitions of every crate share.
 pub mod Rows
 pub mod Tests
 pub mod Places
