@@ -5,8 +5,8 @@ use Prim.Native.Nat.{ℕ, suc, _+_, _≤_, _<_}
 use native.Mathlib.Omega.{arith}
 use native.Mathlib.Nat.{add-assoc, add-zero}
 use native.Mathlib.Numerals.{add-one}
-use lib.ListN.{length, take, drop, set, length-append, length-take, length-drop, take-append-drop}
-use lib.Seq.{length-take-le, take-at, drop-drop, drop-append-add, set-split, append-snoc}
+use lib.ListN.{length, getD, take, drop, set, length-set, length-append, length-take, length-drop, take-append-drop}
+use lib.Seq.{length-take-le, take-at, drop-drop, drop-append-add, set-split, append-snoc, take-set-le, drop-set-lt, drop-cons, getD-set-same}
 use Rattle.lists.specs.Write.{write}
 
 module _ {ℓ} {T : Type ℓ} where
@@ -40,3 +40,13 @@ module _ {ℓ} {T : Type ℓ} where
   write-end l at p x h =
       let n : length (write l at p) ≡ length l = length-write l at p (omega arith) in
       write-one (write l at p) (at + length p) x (omega arith) ∙ write-more l at p (x ∷ []) (omega arith)
+
+  -- an element, and then a part before it
+  pub write-before : (l : List T) (at : ℕ) (p : List T) (x : T) → at + length p < length l
+      → write (set l (at + length p) x) at p ≡ write l at (p ++ (x ∷ []))
+  write-before l at p x h =
+      let i = at + length p in
+      let n : at + length (p ++ (x ∷ [])) ≡ suc i = rw length-append (omega arith) in
+      let g : getD (set l i x) i x ≡ x = getD-set-same l i x x h in
+      rw (take-set-le at l i x (omega arith), drop-cons (set l i x) i x (rw length-set h), g, drop-set-lt (suc i) l i x (omega arith), n)
+      (simp append-assoc)

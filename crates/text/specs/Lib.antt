@@ -1,0 +1,3 @@
+-- What the programs print (document 01, 'A job in full'), as bytes.
+pub mod Numerals
+pub mod Dimacs

@@ -1,0 +1,27 @@
+-- Bytes, and numbers in decimal.
+use mathlib.Core.Bool.{cond}
+use mathlib.Core.List.{List, [], _∷_, _++_}
+use Prim.Native.Nat.{ℕ, zero, suc, _+_, _/_, _%_}
+use lib.Dec.{ltb}
+
+abbrev pub lf : ℕ
+lf = 10
+
+abbrev pub space : ℕ
+space = 32
+
+abbrev pub minus : ℕ
+minus = 45
+
+-- the byte of a digit
+abbrev pub digit : ℕ → ℕ
+digit d = 48 + d
+
+-- the digits of x, which is below k: those of x / 10, where there are any, and the last
+unfoldable pub digitsBelow : ℕ → ℕ → List ℕ
+digitsBelow zero x = []
+digitsBelow (suc k) x = cond (ltb x 10) [] (digitsBelow k (x / 10)) ++ (digit (x % 10) ∷ [])
+
+-- a number in decimal
+unfoldable pub numeral : ℕ → List ℕ
+numeral x = digitsBelow (suc x) x
