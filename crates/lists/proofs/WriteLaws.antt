@@ -6,7 +6,7 @@ use native.Mathlib.Omega.{arith}
 use native.Mathlib.Nat.{add-assoc, add-zero}
 use native.Mathlib.Numerals.{add-one}
 use lib.ListN.{length, getD, take, drop, set, length-set, length-append, length-take, length-drop, take-append-drop}
-use lib.Seq.{length-take-le, take-at, drop-drop, drop-append-add, set-split, append-snoc, take-set-le, drop-set-lt, drop-cons, getD-set-same}
+use lib.Seq.{length-take-le, take-at, drop-drop, drop-append-add, set-split, append-snoc, take-set-le, drop-set-lt, drop-cons, getD-set-same, set-append-left, take-set-lt, take-suc-set}
 use Rattle.lists.specs.Write.{write}
 
 module _ {ℓ} {T : Type ℓ} where
@@ -50,3 +50,12 @@ module _ {ℓ} {T : Type ℓ} where
       let g : getD (set l i x) i x ≡ x = getD-set-same l i x x h in
       rw (take-set-le at l i x (omega arith), drop-cons (set l i x) i x (rw length-set h), g, drop-set-lt (suc i) l i x (omega arith), n)
       (simp append-assoc)
+
+  -- a part, and then an element in front of it
+  pub write-front : (l : List T) (at : ℕ) (p : List T) (x : T) → at < length l → set (write l (at + 1) p) at x ≡ write l at (x ∷ p)
+  write-front l at p x h =
+      let i : at + 1 ≡ suc at = add-one at in
+      let k : at < length (take (suc at) l) = rw (length-take-le (suc at) l h) (omega arith) in
+      let e : set (take (suc at) l) at x ≡ take at l ++ (x ∷ []) = sym (take-set-lt (suc at) l at x (omega arith)) ∙ take-suc-set l at x h in
+      let n : suc at + length p ≡ at + length (x ∷ p) = omega arith in
+      rw (i, append-assoc, set-append-left (take (suc at) l) (p ++ drop (suc at + length p) l) at x k, e, n) (simp append-assoc)

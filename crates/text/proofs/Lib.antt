@@ -2,3 +2,5 @@
 pub mod NumeralLaws
 pub mod DigitLaws
 pub mod SignLaws
+pub mod ToldLaws
+pub mod PieceLaws

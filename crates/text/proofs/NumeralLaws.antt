@@ -46,6 +46,19 @@ length-some x = go (split (ltb x 10))
     go (inl e) = rw (length-small x (ltb-true x 10 e)) (omega arith)
     go (inr e) = rw (length-more x (ltb-false x 10 e)) (omega arith)
 
+length-below : (k x : ℕ) → length (digitsBelow k x) ≤ k
+unfolding digitsBelow
+length-below zero x = omega arith
+length-below (suc k) x = rw length-append (go (ltb x 10) (length-below k (x / 10)))
+  where
+    go : (b : Bool) → length (digitsBelow k (x / 10)) ≤ k → length (cond b [] (digitsBelow k (x / 10))) + 1 ≤ suc k
+    go true h = omega arith
+    go false h = omega arith
+
+pub length-most : (x : ℕ) → length (numeral x) ≤ x + 1
+unfolding numeral
+length-most x = omega (arith, length-below (suc x) x)
+
 pub length-two : (x : ℕ) → 10 ≤ x → x < 100 → length (numeral x) ≡ 2
 length-two x h l = rw (length-more x h, length-small (x / 10) (omega arith))
 

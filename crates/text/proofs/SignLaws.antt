@@ -19,6 +19,10 @@ wider z h = record { sfits = omega (arith, h .sfits) }
 pub back : (z : ℤ) → SFits w32 z → toZ w32 (ofZ w32 z) ≡ z
 back z h = toZ-ofZ w32 z h
 
+-- a test of what the machine reads back is one of z
+pub tested : (z : ℤ) (b : Bool) → SFits w32 z → ltZ (toZ w32 (ofZ w32 z)) (pos 0) ≡ b → ltZ z (pos 0) ≡ b
+tested z b h e = rw (back z h) at e
+
 pub back-wide : (z : ℤ) → SFits w32 z → toZ w64 (ofZ w64 (toZ w32 (ofZ w32 z))) ≡ z
 back-wide z h = rw (back z h) (toZ-ofZ w64 z (wider z h))
 

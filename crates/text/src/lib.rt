@@ -5,11 +5,12 @@ ghost use lib.IntN.{ℤ, natAbs};
 ghost use lib.ListN.{length};
 ghost use Rattle.lists.specs.Write.{write};
 ghost use Rattle.text.specs.Numerals.{numeral};
-ghost use Rattle.text.specs.Dimacs.{told, texted, withNumbers};
+ghost use Rattle.text.specs.Pieces.{texted, withTexts};
+ghost use Rattle.text.specs.Dimacs.{told, numberText};
 
-// How many numbers were written, and how many bytes.
+// How many whole texts were written, and their bytes.
 pub struct Texted {
-    pub numbers: usize,
+    pub count: usize,
     pub bytes: usize,
 }
 
@@ -52,4 +53,47 @@ fn magnitude(x: i32) -> usize
 {
     let y = x as i64;
     if y < 0 { (-y) as usize } else { y as usize }
+}
+
+fn told_length(x: i32) -> usize
+    ensures { λ r. ⌜ r ≡ length (told x) ⌝ }
+{
+    let n = digits(magnitude(x)) + 1;
+    if x < 0 { n + 1 } else { n }
+}
+
+// The text of x, from `at` to `end`.
+fn put_told(out: &mut [u8], at: usize, end: usize, x: i32)
+    requires { ⌜ (end ≡ at + length (told x)) × (end ≤ length (now out)) ⌝ }
+    ensures { λ _. ⌜ now (out .exit) ≡ write (now (out .entry)) at (told x) ⌝ }
+{
+    let size = magnitude(x);
+    put_digits(&mut *out, end - 1, size);
+    if size == 0 {
+        out[end - 1] = 10;
+        return;
+    }
+    out[end - 1] = 32;
+    if x < 0 {
+        out[at] = 45;
+    }
+}
+
+// The text of clauses: whole numbers while the next one fits.
+pub fn numbers_text(numbers: &[i32], out: &mut [u8]) -> Texted
+    ensures { λ r. ⌜ (r ≡ texted (length (now (numbers .entry))) (numberText (now (numbers .entry))) (now (out .entry))) × (now (out .exit) ≡ withTexts (length (now (numbers .entry))) (numberText (now (numbers .entry))) (now (out .entry))) ⌝ }
+{
+    let mut count: usize = 0;
+    let mut bytes: usize = 0;
+    while count < numbers.len() {
+        let x = numbers[count];
+        let n = told_length(x);
+        if out.len() - bytes < n {
+            return Texted { count, bytes };
+        }
+        put_told(&mut *out, bytes, bytes + n, x);
+        bytes += n;
+        count += 1;
+    }
+    Texted { count, bytes }
 }
