@@ -9,6 +9,7 @@ pub mod Sound
 pub mod Complete
 pub mod ValueLaws
 pub mod FitnessLaws
+pub mod Lengths
 pub mod Accuracy
 pub mod MarkedCases
 pub mod OneBitListing

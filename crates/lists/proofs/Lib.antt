@@ -1,6 +1,6 @@
 -- The laws of the shared definitions, by file of the definitions.
 pub mod Logic
 pub mod RowLaws
+pub mod WritingLaws
 pub mod TestLaws
 pub mod PlaceLaws
-pub mod WriteLaws

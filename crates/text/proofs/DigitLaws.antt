@@ -4,8 +4,8 @@ use mathlib.Core.List.{List, [], _∷_, _++_}
 use Prim.Native.Nat.{ℕ, suc, _+_, _-_, _≤_, _<_, _/_, _%_}
 use native.Mathlib.Omega.{arith}
 use lib.ListN.{length, set}
-use Rattle.lists.specs.Write.{write}
-use Rattle.lists.proofs.WriteLaws.{write-one, write-before}
+use Rattle.lists.specs.Writing.{write}
+use Rattle.lists.proofs.WritingLaws.{write-one, write-before}
 use Rattle.text.specs.Numerals.{digit, numeral}
 use Rattle.text.proofs.NumeralLaws.{numeral-small, numeral-more, length-small, length-more, length-some}
 

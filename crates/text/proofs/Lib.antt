@@ -3,4 +3,4 @@ pub mod NumeralLaws
 pub mod DigitLaws
 pub mod SignLaws
 pub mod ToldLaws
-pub mod PieceLaws
+pub mod TextsLaws

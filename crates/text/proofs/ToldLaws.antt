@@ -10,9 +10,9 @@ use borrow.Author.Tests.{ltb-true}
 use lib.IntN.{ℤ, pos, negsuc, natAbs}
 use lib.ListN.{length, set, length-append}
 use lib.Signed.{ltZ}
-use Rattle.lists.specs.Write.{write}
+use Rattle.lists.specs.Writing.{write}
 use Rattle.lists.proofs.Logic.{split}
-use Rattle.lists.proofs.WriteLaws.{length-write, write-end, write-front}
+use Rattle.lists.proofs.WritingLaws.{length-write, write-end, write-front}
 use Rattle.text.specs.Numerals.{lf, space, minus, numeral}
 use Rattle.text.specs.Dimacs.{told}
 use Rattle.text.proofs.NumeralLaws.{length-some}

@@ -1,4 +1,4 @@
 -- What the programs print (document 01, 'A job in full'), as bytes.
 pub mod Numerals
-pub mod Pieces
+pub mod Texts
 pub mod Dimacs

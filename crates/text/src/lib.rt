@@ -3,9 +3,9 @@ ghost use mathlib.Core.Path.{_≡_};
 ghost use Prim.Native.Nat.{ℕ, _+_, _-_, _≤_, _<_};
 ghost use lib.IntN.{ℤ, natAbs};
 ghost use lib.ListN.{length};
-ghost use Rattle.lists.specs.Write.{write};
+ghost use Rattle.lists.specs.Writing.{write};
 ghost use Rattle.text.specs.Numerals.{numeral};
-ghost use Rattle.text.specs.Pieces.{texted, withTexts};
+ghost use Rattle.text.specs.Texts.{texted, withTexts};
 ghost use Rattle.text.specs.Dimacs.{told, numberText};
 
 // How many whole texts were written, and their bytes.

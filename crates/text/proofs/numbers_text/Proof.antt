@@ -6,10 +6,10 @@ use lib.IntN.{ℤ, pos}
 use lib.ListN.{length, getD}
 use mir.Syntax.{w32}
 use mir.Val.{toZ, ofZ}
-use Rattle.lists.specs.Write.{write}
+use Rattle.lists.specs.Writing.{write}
 use Rattle.text.specs.Dimacs.{told, numberText}
 use Rattle.text.proofs.SignLaws.{back}
-use Rattle.text.proofs.PieceLaws.{Begun, begun-none, begun-length, begun-next, begun-full, begun-all}
+use Rattle.text.proofs.TextsLaws.{Begun, begun-none, begun-length, begun-next, begun-full, begun-all}
 use borrow.Author.Needs.{needs}
 use Rattle.text.proofs.numbers_text.Statement.{statement}
 use Rattle.text.proofs.numbers_text.Tie as tie

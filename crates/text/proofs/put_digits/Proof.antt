@@ -3,7 +3,7 @@ use Prim.Native.Nat.{_+_, _-_, _≤_, _<_, _/_}
 use mathlib.Core.Path.{_≡_, _∙_, sym}
 use native.Mathlib.Omega.{arith}
 use lib.ListN.{length, length-set}
-use Rattle.lists.specs.Write.{write}
+use Rattle.lists.specs.Writing.{write}
 use Rattle.text.specs.Numerals.{numeral}
 use Rattle.text.proofs.NumeralLaws.{length-some, length-more}
 use Rattle.text.proofs.DigitLaws.{digit-next, digit-last}

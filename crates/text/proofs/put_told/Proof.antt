@@ -5,7 +5,7 @@ use Prim.Native.Nat.{ℕ, _-_, _≤_}
 use native.Mathlib.Omega.{arith}
 use lib.IntN.{natAbs}
 use lib.ListN.{length, length-set}
-use Rattle.lists.specs.Write.{write}
+use Rattle.lists.specs.Writing.{write}
 use Rattle.text.specs.Numerals.{numeral}
 use Rattle.text.specs.Dimacs.{told}
 use Rattle.text.proofs.NumeralLaws.{length-some}

@@ -5,7 +5,7 @@ use lib.Dec.{leb}
 use lib.ListN.{length}
 use Rattle.lists.specs.Rows.{each, tab}
 use Rattle.lists.specs.Places.{passing}
-use Rattle.lists.specs.Write.{write}
+use Rattle.lists.specs.Writing.{write}
 use Rattle.text.specs.declared.Texted.{Texted}
 
 module _ (n : ℕ) (text : ℕ → List ℕ) where

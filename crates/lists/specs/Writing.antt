@@ -1,4 +1,4 @@
--- A part written into a buffer.
+-- A part written into a list, as a call writes into a lent buffer.
 use mathlib.Core.List.{List, _++_}
 use Prim.Native.Nat.{ℕ, _+_}
 use lib.ListN.{length, take, drop}

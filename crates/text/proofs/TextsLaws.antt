@@ -11,11 +11,11 @@ use lib.Dec.{leb}
 use lib.ListN.{length, length-append}
 use Rattle.lists.specs.Rows.{each, tab}
 use Rattle.lists.specs.Places.{passing}
-use Rattle.lists.specs.Write.{write}
+use Rattle.lists.specs.Writing.{write}
 use Rattle.lists.proofs.PlaceLaws.{row-next, row-found}
-use Rattle.lists.proofs.WriteLaws.{length-write, write-none, write-more}
+use Rattle.lists.proofs.WritingLaws.{length-write, write-none, write-more}
 use Rattle.text.specs.declared.Texted.{Texted}
-use Rattle.text.specs.Pieces.{fitting, texted, withTexts}
+use Rattle.text.specs.Texts.{fitting, texted, withTexts}
 
 module _ (text : ℕ → List ℕ) (old : List ℕ) where
   -- text i fits behind those before it
