@@ -4,3 +4,5 @@ pub mod DigitLaws
 pub mod SignLaws
 pub mod ToldLaws
 pub mod TextsLaws
+pub mod PutLaws
+pub mod WholeLaws

@@ -78,3 +78,16 @@ length-past x h =
     let d = length-more (x / 10 / 10 / 10) (omega arith) in
     let f : length (numeral (x / 10 / 10 / 10 / 10)) ≡ length (numeral (x / 10000)) = ap (λ (k : ℕ). length (numeral k)) e in
     omega arith
+
+-- a number below a power of ten
+pub length-few : (k x : ℕ) → x < 10 ^ suc k → length (numeral x) ≤ suc k
+length-few zero x h = rw (length-small x (omega arith)) (omega arith)
+length-few (suc k) x h = go (split (ltb x 10)) (length-few k (x / 10) (omega arith))
+  where
+    go : (ltb x 10 ≡ true) ⊎ (ltb x 10 ≡ false) → length (numeral (x / 10)) ≤ suc k → length (numeral x) ≤ suc (suc k)
+    go (inl e) l = rw (length-small x (ltb-true x 10 e)) (omega arith)
+    go (inr e) l = rw (length-more x (ltb-false x 10 e)) (omega arith)
+
+-- a number of 64 bits
+pub length-word : (x : ℕ) → x < 18446744073709551616 → length (numeral x) ≤ 20
+length-word x h = length-few 19 x (omega arith)

@@ -2,3 +2,6 @@
 pub mod Numerals
 pub mod Texts
 pub mod Dimacs
+pub mod Whole
+pub mod Lines
+pub mod Put

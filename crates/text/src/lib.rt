@@ -1,5 +1,6 @@
 // What the programs print (document 01, 'A job in full'), made in lent buffers.
 ghost use mathlib.Core.Path.{_≡_};
+ghost use mathlib.Core.List.{[], _∷_};
 ghost use Prim.Native.Nat.{ℕ, _+_, _-_, _≤_, _<_};
 ghost use lib.IntN.{ℤ, natAbs};
 ghost use lib.ListN.{length};
@@ -7,11 +8,21 @@ ghost use Rattle.lists.specs.Writing.{write};
 ghost use Rattle.text.specs.Numerals.{numeral};
 ghost use Rattle.text.specs.Texts.{texted, withTexts};
 ghost use Rattle.text.specs.Dimacs.{told, numberText};
+ghost use Rattle.text.specs.Whole.{printed, withText};
+ghost use Rattle.text.specs.Lines.{sentence, header, refused};
+ghost use Rattle.text.specs.Put.{Put};
+use job::Refusal;
 
 // How many whole texts were written, and their bytes.
 pub struct Texted {
     pub count: usize,
     pub bytes: usize,
+}
+
+// How many bytes were written, or that the buffer is short and as it was.
+pub enum Printed {
+    Bytes(usize),
+    Short,
 }
 
 // How many digits x has.
@@ -96,4 +107,80 @@ pub fn numbers_text(numbers: &[i32], out: &mut [u8]) -> Texted
         count += 1;
     }
     Texted { count, bytes }
+}
+
+fn put_part(out: &mut [u8], at: usize, part: &[u8]) -> usize
+    requires { ⌜ at + length (now part) ≤ length (now out) ⌝ }
+    ensures { λ r. ⌜ Put (now (out .entry)) at (now (part .entry)) r (now (out .exit)) ⌝ }
+{
+    let mut i: usize = 0;
+    while i < part.len() {
+        out[at + i] = part[i];
+        i += 1;
+    }
+    at + i
+}
+
+fn put_byte(out: &mut [u8], at: usize, b: u8) -> usize
+    requires { ⌜ at < length (now out) ⌝ }
+    ensures { λ r. ⌜ Put (now (out .entry)) at (b ∷ []) r (now (out .exit)) ⌝ }
+{
+    out[at] = b;
+    at + 1
+}
+
+fn put_number(out: &mut [u8], at: usize, x: usize) -> usize
+    requires { ⌜ at + length (numeral x) ≤ length (now out) ⌝ }
+    ensures { λ r. ⌜ Put (now (out .entry)) at (numeral x) r (now (out .exit)) ⌝ }
+{
+    let end = at + digits(x);
+    put_digits(out, end, x);
+    end
+}
+
+// A text goes into the buffer whole, or nothing of it does.
+fn give(text: &[u8], out: &mut [u8]) -> Printed
+    ensures { λ r. ⌜ (r ≡ printed (now (text .entry)) (now (out .entry))) × (now (out .exit) ≡ withText (now (text .entry)) (now (out .entry))) ⌝ }
+{
+    if out.len() < text.len() {
+        return Printed::Short;
+    }
+    put_part(out, 0, text);
+    Printed::Bytes(text.len())
+}
+
+// Two numbers, each behind its word: at most 8, 20, 4, 20 bytes and the LF.
+fn put_sentence(out: &mut [u8], first: &[u8], x: usize, second: &[u8], y: usize) -> usize
+    requires { ⌜ (length (now first) ≤ 8) × (length (now second) ≤ 4) × (53 ≤ length (now out)) ⌝ }
+    ensures { λ r. ⌜ (r ≤ 53) × Put (now (out .entry)) 0 (sentence (now (first .entry)) x (now (second .entry)) y) r (now (out .exit)) ⌝ }
+{
+    let a = put_part(&mut *out, 0, first);
+    let b = put_number(&mut *out, a, x);
+    let c = put_part(&mut *out, b, second);
+    let d = put_number(&mut *out, c, y);
+    put_byte(out, d, 10)
+}
+
+// `p cnf V C`.
+pub fn header_text(variables: usize, clauses: usize, out: &mut [u8]) -> Printed
+    ensures { λ r. ⌜ (r ≡ printed (header variables clauses) (now (out .entry))) × (now (out .exit) ≡ withText (header variables clauses) (now (out .entry))) ⌝ }
+{
+    let mut line = [0u8; 53];
+    let end = put_sentence(&mut line, b"p cnf ", variables, b" ", clauses);
+    give(&line[..end], out)
+}
+
+// `refused N at P`.
+pub fn refusal_text(refusal: Refusal, out: &mut [u8]) -> Printed
+    ensures { λ r. ⌜ (r ≡ printed (refused refusal) (now (out .entry))) × (now (out .exit) ≡ withText (refused refusal) (now (out .entry))) ⌝ }
+{
+    let mut line = [0u8; 53];
+    let end = put_sentence(
+        &mut line,
+        b"refused ",
+        refusal.number as usize,
+        b" at ",
+        refusal.place,
+    );
+    give(&line[..end], out)
 }

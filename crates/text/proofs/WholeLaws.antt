@@ -1,0 +1,19 @@
+-- Laws of a text that goes into a buffer whole or not at all.
+use mathlib.Core.Path.{_≡_, refl}
+use mathlib.Core.List.{List}
+use Prim.Native.Nat.{ℕ, _≤_, _<_}
+use borrow.Author.Tests.{le-leb, lt-leb}
+use lib.ListN.{length}
+use Rattle.text.specs.declared.Printed.the-variants.{Bytes, Short}
+use Rattle.text.specs.Whole.{printed, withText}
+use Rattle.text.specs.Put.{Put}
+
+module _ (text old : List ℕ) where
+  pub too-long : length old < length text → (Short ≡ printed text old) × (old ≡ withText text old)
+  unfolding printed withText
+  too-long h = (rw (lt-leb _ _ h), rw (lt-leb _ _ h))
+
+  pub given-whole : (new : List ℕ) (next : ℕ) → length text ≤ length old → Put old 0 text next new
+      → (Bytes (length text) ≡ printed text old) × (new ≡ withText text old)
+  unfolding printed withText
+  given-whole new next h p = (rw (le-leb _ _ h), rw (le-leb _ _ h) (p .holds))
