@@ -6,7 +6,7 @@ use Prim.Native.Nat.{ℕ, zero, suc, _+_, _≤_, _<_}
 use native.Mathlib.Omega.{arith}
 use native.Mathlib.Decide.{ℕ-discrete}
 use native.Mathlib.Numerals.{add-one}
-use borrow.Author.Tests.{leb-true, le-leb}
+use borrow.Author.Tests.{leb-true, le-leb, lt-leb}
 use lib.Dec.{leb}
 use Rattle.lists.specs.Tests.{every, all, within}
 use Rattle.lists.proofs.Logic.{and-left, and-right, and-no}
@@ -36,6 +36,19 @@ is-within lo hi x h = let (a, (b, _)) = passed _ h in (leb-true lo x a, leb-true
 pub within-is : (lo hi x : ℕ) → lo ≤ x → x ≤ hi → within lo hi x ≡ true
 unfolding within
 within-is lo hi x a b = pass _ (le-leb lo x a, (le-leb x hi b, tt))
+
+pub within-under : (lo hi x : ℕ) → x < lo → within lo hi x ≡ false
+unfolding within every
+within-under lo hi x h = rw (lt-leb lo x h)
+
+pub within-over : (lo hi x : ℕ) → hi < x → within lo hi x ≡ false
+unfolding within every
+within-over lo hi x h = rw (lt-leb x hi h) (and-no (leb lo x))
+
+-- at or above lo it is hi that decides
+pub within-upper : (lo hi x : ℕ) → lo ≤ x → within lo hi x ≡ leb x hi
+unfolding within every
+within-upper lo hi x h = rw (le-leb lo x h)
 
 module _ (f : ℕ → Bool) where
   pub all-at : (n : ℕ) → all n f ≡ true → (i : ℕ) → i < n → f i ≡ true

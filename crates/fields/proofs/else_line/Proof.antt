@@ -1,0 +1,61 @@
+-- `else_line` reads ` else ` and M: each that is refused ends it.
+use Rattle.fields.proofs.StepLineLaws.{after-no, after-read}
+use Rattle.fields.specs.StepLine.{elseLine}
+use mathlib.Core.Path.{_∙_}
+use borrow.Author.Needs.{needs}
+use Rattle.fields.proofs.else_line.Statement.{statement}
+use Rattle.fields.proofs.else_line.Tie as tie
+
+else-word-requires : tie.Need-else-word-requires
+else-word-requires c κs = search needs
+
+enum-told : tie.Need-enum-told
+enum-told c = search needs
+
+enum-told-2 : tie.Need-enum-told-2
+enum-told-2 c = search needs
+
+number-requires : tie.Need-number-requires
+number-requires c κs = search needs
+
+returns : tie.Need-returns
+unfolding elseLine
+returns c = after-no (c .before .before .before .else-word .result) _ _ (c .before .enum-told2 .given .0 .0) _ (c .before .before .before .else-word .ensures) (c .before .enum-told2 .given .1) (c .number .ensures)
+
+other-label-requires : tie.Need-other-label-requires
+other-label-requires c κs = search needs
+
+enum-told-3 : tie.Need-enum-told-3
+enum-told-3 c = search needs
+
+enum-told-4 : tie.Need-enum-told-4
+enum-told-4 c = search needs
+
+number-requires-2 : tie.Need-number-requires-2
+number-requires-2 c κs = search needs
+
+returns-2 : tie.Need-returns-2
+unfolding elseLine
+returns-2 c = after-no (c .before .before .before .other-label .result) _ _ (c .before .enum-told4 .given .0 .0) _ (c .before .before .before .other-label .ensures) (c .before .enum-told4 .given .1) (c .number2 .ensures)
+    ∙ after-read (c .before .before .before .before .before .before .before .else-word .result) _ _ (c .before .before .before .before .before .before .before .else-word .ensures) (c .before .before .before .before .before .enum-told .given .1)
+
+returns-3 : tie.Need-returns-3
+unfolding elseLine
+returns-3 c = after-read (c .before .before .other-label .result) _ _ (c .before .before .other-label .ensures) (c .enum-told3 .given .1)
+    ∙ after-read (c .before .before .before .before .before .before .else-word .result) _ _ (c .before .before .before .before .before .before .else-word .ensures) (c .before .before .before .before .enum-told .given .1)
+
+pub else-line-spec : {M : Type 1} → statement M
+else-line-spec =
+    tie.close
+    (tie.spec
+    else-word-requires
+    enum-told
+    enum-told-2
+    number-requires
+    returns
+    other-label-requires
+    enum-told-3
+    enum-told-4
+    number-requires-2
+    returns-2
+    returns-3)

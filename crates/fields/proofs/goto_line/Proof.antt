@@ -1,0 +1,78 @@
+-- `goto_line` reads ` goto ` and L, and then the end or, of an if, ` else ` and M.
+use Rattle.fields.proofs.StepLineLaws.{after-no, after-read, picked, passed}
+use Rattle.fields.specs.StepLine.{gotoLine}
+use borrow.Author.Tests.{eq-eqb, ne-eqb}
+use mathlib.Core.Path.{_∙_}
+use borrow.Author.Needs.{needs}
+use Rattle.fields.proofs.goto_line.Statement.{statement}
+use Rattle.fields.proofs.goto_line.Tie as tie
+
+goto-word-requires : tie.Need-goto-word-requires
+goto-word-requires c κs = search needs
+
+enum-told : tie.Need-enum-told
+enum-told c = search needs
+
+enum-told-2 : tie.Need-enum-told-2
+enum-told-2 c = search needs
+
+number-requires : tie.Need-number-requires
+number-requires c κs = search needs
+
+returns : tie.Need-returns
+unfolding gotoLine
+returns c = after-no (c .before .before .before .goto-word .result) _ _ (c .before .enum-told2 .given .0 .0) _ (c .before .before .before .goto-word .ensures) (c .before .enum-told2 .given .1) (c .number .ensures)
+
+to-label-requires : tie.Need-to-label-requires
+to-label-requires c κs = search needs
+
+enum-told-3 : tie.Need-enum-told-3
+enum-told-3 c = search needs
+
+enum-told-4 : tie.Need-enum-told-4
+enum-told-4 c = search needs
+
+number-requires-2 : tie.Need-number-requires-2
+number-requires-2 c κs = search needs
+
+returns-2 : tie.Need-returns-2
+unfolding gotoLine
+returns-2 c = after-no (c .before .before .before .to-label .result) _ _ (c .before .enum-told4 .given .0 .0) _ (c .before .before .before .to-label .ensures) (c .before .enum-told4 .given .1) (c .number2 .ensures)
+    ∙ after-read (c .before .before .before .before .before .before .before .goto-word .result) _ _ (c .before .before .before .before .before .before .before .goto-word .ensures) (c .before .before .before .before .before .enum-told .given .1)
+
+else-line-requires : tie.Need-else-line-requires
+else-line-requires c κs = search needs
+
+end-line-requires : tie.Need-end-line-requires
+end-line-requires c κs = search needs
+
+returns-3 : tie.Need-returns-3
+unfolding gotoLine
+returns-3 c = c .else-line .ensures ∙ picked _ _ _ (eq-eqb _ _ (c .before .if1 .taken))
+    ∙ after-read (c .before .before .before .before .before .before .to-label .result) _ _ (c .before .before .before .before .before .before .to-label .ensures) (c .before .before .before .before .enum-told3 .given .1)
+    ∙ after-read (c .before .before .before .before .before .before .before .before .before .before .goto-word .result) _ _ (c .before .before .before .before .before .before .before .before .before .before .goto-word .ensures) (c .before .before .before .before .before .before .before .before .enum-told .given .1)
+
+returns-4 : tie.Need-returns-4
+unfolding gotoLine
+returns-4 c = c .end-line .ensures ∙ passed _ _ _ (ne-eqb _ _ (c .before .if1 .left))
+    ∙ after-read (c .before .before .before .before .before .before .to-label .result) _ _ (c .before .before .before .before .before .before .to-label .ensures) (c .before .before .before .before .enum-told3 .given .1)
+    ∙ after-read (c .before .before .before .before .before .before .before .before .before .before .goto-word .result) _ _ (c .before .before .before .before .before .before .before .before .before .before .goto-word .ensures) (c .before .before .before .before .before .before .before .before .enum-told .given .1)
+
+pub goto-line-spec : {M : Type 1} → statement M
+goto-line-spec =
+    tie.close
+    (tie.spec
+    goto-word-requires
+    enum-told
+    enum-told-2
+    number-requires
+    returns
+    to-label-requires
+    enum-told-3
+    enum-told-4
+    number-requires-2
+    returns-2
+    else-line-requires
+    end-line-requires
+    returns-3
+    returns-4)

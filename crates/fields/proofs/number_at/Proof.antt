@@ -1,0 +1,56 @@
+-- `number_at` gives R by its digits, of which there are one or two.
+use Rattle.fields.proofs.FirstLineLaws.{value-most, number-two, number-one}
+use native.Mathlib.Omega.{arith}
+use mathlib.Core.Path.{sym, _∙_}
+use borrow.Author.Needs.{needs}
+use Rattle.fields.proofs.number_at.Statement.{statement}
+use Rattle.fields.proofs.number_at.Tie as tie
+
+byte-at-requires : tie.Need-byte-at-requires
+byte-at-requires c κs = search needs
+
+add-byte-at : tie.Need-add-byte-at
+add-byte-at c = search needs
+
+byte-at-requires-2 : tie.Need-byte-at-requires-2
+byte-at-requires-2 c κs = search needs
+
+is-digit-requires : tie.Need-is-digit-requires
+is-digit-requires c κs = search needs
+
+value-requires : tie.Need-value-requires
+value-requires c κs = search needs
+
+mul-result : tie.Need-mul-result
+mul-result c = omega (arith, c .value .ensures, value-most (c .before .before .before .before .byte-at .result))
+
+value-requires-2 : tie.Need-value-requires-2
+value-requires-2 c κs = search needs
+
+add-result : tie.Need-add-result
+add-result c = omega (arith, c .before .value .ensures, value-most (c .before .before .before .before .before .byte-at .result), c .value2 .ensures, value-most (c .before .before .before .before .byte-at2 .result))
+
+value-requires-3 : tie.Need-value-requires-3
+value-requires-3 c κs = search needs
+
+returns : tie.Need-returns
+returns c = number-two (c .before .before .before .before .before .before .before .args .s .now) (c .before .before .before .before .before .before .before .args .column) _ _ _ _ (c .before .before .before .before .before .byte-at .ensures) (c .before .before .before .before .byte-at2 .ensures) (sym (c .before .before .before .is-digit .ensures) ∙ c .before .before .if1 .taken) (c .before .value .ensures) (c .value2 .ensures)
+
+returns-2 : tie.Need-returns-2
+returns-2 c = number-one (c .before .before .before .before .before .before .args .s .now) (c .before .before .before .before .before .before .args .column) _ _ _ (c .before .before .before .before .byte-at .ensures) (c .before .before .before .byte-at2 .ensures) (sym (c .before .before .is-digit .ensures) ∙ c .before .if1 .left) (c .value3 .ensures)
+
+pub number-at-spec : {M : Type 1} → statement M
+number-at-spec =
+    tie.close
+    (tie.spec
+    byte-at-requires
+    add-byte-at
+    byte-at-requires-2
+    is-digit-requires
+    value-requires
+    mul-result
+    value-requires-2
+    add-result
+    value-requires-3
+    returns
+    returns-2)

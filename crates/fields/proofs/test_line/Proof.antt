@@ -1,0 +1,102 @@
+-- `test_line` reads V, `=` and v from left to right, and goes on with ` goto `.
+use Rattle.fields.proofs.StepLineLaws.{after-no, after-read}
+use Rattle.fields.specs.StepLine.{testLine, gotoLine, tested, bitOf}
+use Prim.Native.Nat.{ℕ}
+use mathlib.Core.Path.{_∙_, ap}
+use borrow.Author.Needs.{needs}
+use Rattle.fields.proofs.test_line.Statement.{statement}
+use Rattle.fields.proofs.test_line.Tie as tie
+
+variable-requires : tie.Need-variable-requires
+variable-requires c κs = search needs
+
+enum-told : tie.Need-enum-told
+enum-told c = search needs
+
+enum-told-2 : tie.Need-enum-told-2
+enum-told-2 c = search needs
+
+number-requires : tie.Need-number-requires
+number-requires c κs = search needs
+
+returns : tie.Need-returns
+unfolding testLine
+returns c = after-no (c .before .before .before .variable .result) _ _ (c .before .enum-told2 .given .0 .0) _ (c .before .before .before .variable .ensures) (c .before .enum-told2 .given .1) (c .number .ensures)
+
+equals-requires : tie.Need-equals-requires
+equals-requires c κs = search needs
+
+enum-told-3 : tie.Need-enum-told-3
+enum-told-3 c = search needs
+
+enum-told-4 : tie.Need-enum-told-4
+enum-told-4 c = search needs
+
+number-requires-2 : tie.Need-number-requires-2
+number-requires-2 c κs = search needs
+
+returns-2 : tie.Need-returns-2
+unfolding testLine
+returns-2 c = after-no (c .before .before .before .equals .result) _ _ (c .before .enum-told4 .given .0 .0) _ (c .before .before .before .equals .ensures) (c .before .enum-told4 .given .1) (c .number2 .ensures)
+    ∙ after-read (c .before .before .before .before .before .before .before .variable .result) _ _ (c .before .before .before .before .before .before .before .variable .ensures) (c .before .before .before .before .before .enum-told .given .1)
+
+bit-requires : tie.Need-bit-requires
+bit-requires c κs = search needs
+
+enum-told-5 : tie.Need-enum-told-5
+enum-told-5 c = search needs
+
+enum-told-6 : tie.Need-enum-told-6
+enum-told-6 c = search needs
+
+number-requires-3 : tie.Need-number-requires-3
+number-requires-3 c κs = search needs
+
+returns-3 : tie.Need-returns-3
+unfolding testLine
+returns-3 c = after-no (c .before .before .before .bit .result) _ _ (c .before .enum-told6 .given .0 .0) _ (c .before .before .before .bit .ensures) (c .before .enum-told6 .given .1) (c .number3 .ensures)
+    ∙ after-read (c .before .before .before .before .before .before .before .equals .result) _ _ (c .before .before .before .before .before .before .before .equals .ensures) (c .before .before .before .before .before .enum-told3 .given .1)
+    ∙ after-read (c .before .before .before .before .before .before .before .before .before .before .before .variable .result) _ _ (c .before .before .before .before .before .before .before .before .before .before .before .variable .ensures) (c .before .before .before .before .before .before .before .before .before .enum-told .given .1)
+
+byte-at-requires : tie.Need-byte-at-requires
+byte-at-requires c κs = search needs
+
+bit-of-requires : tie.Need-bit-of-requires
+bit-of-requires c κs = search needs
+
+goto-line-requires : tie.Need-goto-line-requires
+goto-line-requires c κs = search needs
+
+returns-4 : tie.Need-returns-4
+unfolding testLine
+returns-4 c = let a = c .before .before .before .before .before .before .before .before .before .before .before .before .before .before .before .args in
+    let value = c .before .bit-of .ensures ∙ ap bitOf (c .before .before .byte-at .ensures) in
+    c .goto-line .ensures
+    ∙ ap (λ (v : ℕ). gotoLine (a .s .now) (c .before .before .before .before .before .bit .result .at) (tested (a .p) (a .at .column) (c .before .before .before .before .before .before .before .before .before .before .before .before .before .variable .result .at .column) v)) value
+    ∙ after-read (c .before .before .before .before .before .bit .result) _ _ (c .before .before .before .before .before .bit .ensures) (c .before .before .before .enum-told5 .given .1)
+    ∙ after-read (c .before .before .before .before .before .before .before .before .before .equals .result) _ _ (c .before .before .before .before .before .before .before .before .before .equals .ensures) (c .before .before .before .before .before .before .before .enum-told3 .given .1)
+    ∙ after-read (c .before .before .before .before .before .before .before .before .before .before .before .before .before .variable .result) _ _ (c .before .before .before .before .before .before .before .before .before .before .before .before .before .variable .ensures) (c .before .before .before .before .before .before .before .before .before .before .before .enum-told .given .1)
+
+pub test-line-spec : {M : Type 1} → statement M
+test-line-spec =
+    tie.close
+    (tie.spec
+    variable-requires
+    enum-told
+    enum-told-2
+    number-requires
+    returns
+    equals-requires
+    enum-told-3
+    enum-told-4
+    number-requires-2
+    returns-2
+    bit-requires
+    enum-told-5
+    enum-told-6
+    number-requires-3
+    returns-3
+    byte-at-requires
+    bit-of-requires
+    goto-line-requires
+    returns-4)

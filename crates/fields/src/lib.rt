@@ -1,0 +1,623 @@
+// The field readers, each lent the line and handed a cursor, and line 1 and the step line made of them.
+ghost use mathlib.Core.Path.{_≡_};
+ghost use Prim.Native.Nat.{ℕ, _-_, _≤_, _<_};
+ghost use lib.ListN.{length};
+ghost use lib.Seq.{slice};
+ghost use Rattle.lists.specs.Rows.{num};
+ghost use Rattle.scan.specs.Bytes.{alnum as isAlnum, allOf, headed};
+ghost use Rattle.fields.specs.Fields.{numberOf, wordField, nameField, variableField, toField, otherField};
+ghost use Rattle.fields.specs.Fields.{fixedField, spaceField, equalsField, gotoField, elseField, boundField};
+ghost use Rattle.fields.specs.Fields.{digit as isDigit, bitField, rangeField, endField, stepEndField, boundEndField, wholeLine};
+ghost use Rattle.scan.specs.Lines.{row};
+ghost use Rattle.fields.specs.FirstLine.{valueOf, numberAt, firstLine};
+ghost use Rattle.fields.specs.StepLine.{begun as begunStep, bitOf, elseLine, endLine, gotoLine, testLine, kindLine, stepLine};
+use scan::Found;
+
+// A place in a text: the line's number, and a column of the line.
+pub struct Cursor {
+    pub line: usize,
+    pub column: usize,
+}
+
+// Bytes in a line before its LF.
+impl Cursor {
+    pub const COLUMNS: usize = 1022;
+}
+
+// A field's answer: read, or a number of document 01.
+pub enum Field {
+    Read,
+    No(u8),
+}
+
+// The numbers of document 01, 'What is turned away', that a line's fields have.
+impl Field {
+    pub const LINE_LONG: u8 = 2;
+
+    pub const LINE_BYTE: u8 = 3;
+
+    pub const LINE_OPEN: u8 = 4;
+
+    pub const LINE_1: u8 = 5;
+
+    pub const NAME_LONG: u8 = 10;
+
+    pub const NAME_ILL: u8 = 11;
+
+    pub const NAME_USED: u8 = 12;
+
+    pub const NO_SPACE: u8 = 13;
+
+    pub const TEXT_AFTER: u8 = 14;
+
+    pub const NO_GOTO: u8 = 16;
+
+    pub const TO_ILL: u8 = 17;
+
+    pub const NO_EQUALS: u8 = 18;
+    // If step ends badly: no line does, since M takes all that follows it.
+    pub const IF_END: u8 = 19;
+
+    pub const VARIABLE_LONG: u8 = 20;
+
+    pub const VARIABLE_ILL: u8 = 21;
+
+    pub const VALUE: u8 = 22;
+
+    pub const NO_ELSE: u8 = 23;
+
+    pub const OTHER_ILL: u8 = 24;
+}
+
+// A field's answer, and the cursor: moved on, or where it was.
+pub struct Moved {
+    pub field: Field,
+    pub at: Cursor,
+}
+
+// What line 1 says: R.
+pub enum FirstLine {
+    Bound(usize),
+    Refused(u8),
+}
+
+// What a step line says: its kind, where its name ends, V's columns, v, L's columns, and where M starts.
+pub struct Step {
+    pub kind: u8,
+    pub name: usize,
+    pub variable: usize,
+    pub equals: usize,
+    pub value: u8,
+    pub to: usize,
+    pub end: usize,
+    pub other: usize,
+}
+
+pub enum StepLine {
+    Line(Step),
+    Refused(u8),
+}
+
+fn alnum(b: u8) -> bool
+    ensures { λ r. ⌜ r ≡ isAlnum b ⌝ }
+{
+    if b < b'0' {
+        return false;
+    }
+    if b <= b'9' {
+        return true;
+    }
+    if b < b'A' {
+        return false;
+    }
+    if b <= b'Z' {
+        return true;
+    }
+    if b < b'a' {
+        return false;
+    }
+    b <= b'z'
+}
+
+fn all_alnum(s: &[u8], from: usize, to: usize) -> bool
+    requires { ⌜ to ≤ length (now s) ⌝ }
+    ensures { λ r. ⌜ r ≡ allOf isAlnum (slice from to (now (s .entry))) ⌝ }
+{
+    let mut i = from;
+    while i < to {
+        if !alnum(s[i]) {
+            return false;
+        }
+        i += 1;
+    }
+    true
+}
+
+// Letters or digits, the first from lo to hi.
+fn is_headed(s: &[u8], from: usize, to: usize, lo: u8, hi: u8) -> bool
+    requires { ⌜ to - from ≤ length (now s) - from ⌝ }
+    ensures { λ r. ⌜ r ≡ headed lo hi (slice from to (now (s .entry))) ⌝ }
+{
+    if to <= from {
+        return false;
+    }
+    let b = s[from];
+    if b < lo {
+        return false;
+    }
+    if hi < b {
+        return false;
+    }
+    all_alnum(s, from + 1, to)
+}
+
+// A name up to the first stop or the line's end, of at most most letters or digits, the first from lo to hi.
+fn word(s: &[u8], at: Cursor, stop: u8, most: usize, lo: u8, hi: u8, long: u8, ill: u8) -> Moved
+    ensures { λ r. ⌜ r ≡ wordField stop most lo hi long ill (now (s .entry)) at ⌝ }
+{
+    let from = at.column;
+    let to = scan::end_of(s, from, stop);
+    if most < to - from {
+        return Moved {
+            field: Field::No(long),
+            at,
+        };
+    }
+    if !is_headed(s, from, to, lo, hi) {
+        return Moved {
+            field: Field::No(ill),
+            at,
+        };
+    }
+    Moved {
+        field: Field::Read,
+        at: Cursor {
+            line: at.line,
+            column: to,
+        },
+    }
+}
+
+pub fn name(s: &[u8], at: Cursor) -> Moved
+    ensures { λ r. ⌜ r ≡ nameField (now (s .entry)) at ⌝ }
+{
+    word(
+        s,
+        at,
+        b' ',
+        4,
+        b'A',
+        b'B',
+        Field::NAME_LONG,
+        Field::NAME_ILL,
+    )
+}
+
+pub fn variable(s: &[u8], at: Cursor) -> Moved
+    ensures { λ r. ⌜ r ≡ variableField (now (s .entry)) at ⌝ }
+{
+    word(
+        s,
+        at,
+        b'=',
+        2,
+        b'a',
+        b'z',
+        Field::VARIABLE_LONG,
+        Field::VARIABLE_ILL,
+    )
+}
+
+pub fn to_label(s: &[u8], at: Cursor) -> Moved
+    ensures { λ r. ⌜ r ≡ toField (now (s .entry)) at ⌝ }
+{
+    word(s, at, b' ', 4, b'A', b'B', Field::TO_ILL, Field::TO_ILL)
+}
+
+pub fn other_label(s: &[u8], at: Cursor) -> Moved
+    ensures { λ r. ⌜ r ≡ otherField (now (s .entry)) at ⌝ }
+{
+    word(s, at, 10, 4, b'A', b'B', Field::OTHER_ILL, Field::OTHER_ILL)
+}
+
+fn fixed(s: &[u8], at: Cursor, w: &[u8], number: u8) -> Moved
+    ensures { λ r. ⌜ r ≡ fixedField (now (w .entry)) number (now (s .entry)) at ⌝ }
+{
+    let from = at.column;
+    if scan::follows(s, from, w) {
+        Moved {
+            field: Field::Read,
+            at: Cursor {
+                line: at.line,
+                column: from + w.len(),
+            },
+        }
+    } else {
+        Moved {
+            field: Field::No(number),
+            at,
+        }
+    }
+}
+
+pub fn space(s: &[u8], at: Cursor) -> Moved
+    ensures { λ r. ⌜ r ≡ spaceField (now (s .entry)) at ⌝ }
+{
+    fixed(s, at, b" ", Field::NO_SPACE)
+}
+
+pub fn equals(s: &[u8], at: Cursor) -> Moved
+    ensures { λ r. ⌜ r ≡ equalsField (now (s .entry)) at ⌝ }
+{
+    fixed(s, at, b"=", Field::NO_EQUALS)
+}
+
+pub fn goto_word(s: &[u8], at: Cursor) -> Moved
+    ensures { λ r. ⌜ r ≡ gotoField (now (s .entry)) at ⌝ }
+{
+    fixed(s, at, b" goto ", Field::NO_GOTO)
+}
+
+pub fn else_word(s: &[u8], at: Cursor) -> Moved
+    ensures { λ r. ⌜ r ≡ elseField (now (s .entry)) at ⌝ }
+{
+    fixed(s, at, b" else ", Field::NO_ELSE)
+}
+
+pub fn bound_word(s: &[u8], at: Cursor) -> Moved
+    ensures { λ r. ⌜ r ≡ boundField (now (s .entry)) at ⌝ }
+{
+    fixed(s, at, b"bound ", Field::LINE_1)
+}
+
+pub fn bit(s: &[u8], at: Cursor) -> Moved
+    ensures { λ r. ⌜ r ≡ bitField (now (s .entry)) at ⌝ }
+{
+    let from = at.column;
+    let b = scan::byte_at(s, from);
+    if b < b'0' {
+        return Moved {
+            field: Field::No(Field::VALUE),
+            at,
+        };
+    }
+    if b'1' < b {
+        return Moved {
+            field: Field::No(Field::VALUE),
+            at,
+        };
+    }
+    Moved {
+        field: Field::Read,
+        at: Cursor {
+            line: at.line,
+            column: from + 1,
+        },
+    }
+}
+
+// R, of one digit or two: the second is read where a digit follows.
+pub fn range(s: &[u8], at: Cursor) -> Moved
+    ensures { λ r. ⌜ r ≡ rangeField (now (s .entry)) at ⌝ }
+{
+    let from = at.column;
+    let b = scan::byte_at(s, from);
+    if b < b'1' {
+        return Moved {
+            field: Field::No(Field::LINE_1),
+            at,
+        };
+    }
+    if b'9' < b {
+        return Moved {
+            field: Field::No(Field::LINE_1),
+            at,
+        };
+    }
+    if is_digit(scan::byte_at(s, from + 1)) {
+        Moved {
+            field: Field::Read,
+            at: Cursor {
+                line: at.line,
+                column: from + 2,
+            },
+        }
+    } else {
+        Moved {
+            field: Field::Read,
+            at: Cursor {
+                line: at.line,
+                column: from + 1,
+            },
+        }
+    }
+}
+
+fn is_digit(b: u8) -> bool
+    ensures { λ r. ⌜ r ≡ isDigit b ⌝ }
+{
+    if b < b'0' { false } else { b <= b'9' }
+}
+
+fn ended(s: &[u8], at: Cursor, number: u8) -> Moved
+    ensures { λ r. ⌜ r ≡ endField number (now (s .entry)) at ⌝ }
+{
+    let from = at.column;
+    if s.len() <= from {
+        Moved {
+            field: Field::Read,
+            at,
+        }
+    } else {
+        Moved {
+            field: Field::No(number),
+            at,
+        }
+    }
+}
+
+pub fn step_end(s: &[u8], at: Cursor) -> Moved
+    ensures { λ r. ⌜ r ≡ stepEndField (now (s .entry)) at ⌝ }
+{
+    ended(s, at, Field::TEXT_AFTER)
+}
+
+pub fn bound_end(s: &[u8], at: Cursor) -> Moved
+    ensures { λ r. ⌜ r ≡ boundEndField (now (s .entry)) at ⌝ }
+{
+    ended(s, at, Field::LINE_1)
+}
+
+// 01's number of an answer, 0 where the field is read.
+pub fn number(f: Field) -> u8
+    ensures { λ r. ⌜ r ≡ numberOf f ⌝ }
+{
+    match f {
+        Field::Read => 0,
+        Field::No(n) => n,
+    }
+}
+
+fn value(b: u8) -> usize
+    ensures { λ r. ⌜ r ≡ valueOf b ⌝ }
+{
+    if is_digit(b) { b as usize - 48 } else { 0 }
+}
+
+fn number_at(s: &[u8], column: usize) -> usize
+    requires { ⌜ column < length (now s) ⌝ }
+    ensures { λ r. ⌜ r ≡ numberAt (now (s .entry)) column ⌝ }
+{
+    let a = scan::byte_at(s, column);
+    let b = scan::byte_at(s, column + 1);
+    if is_digit(b) {
+        value(a) * 10 + value(b)
+    } else {
+        value(a)
+    }
+}
+
+// The line as a whole, whose LF is there or not.
+pub fn line(s: &[u8], ended: bool) -> Field
+    ensures { λ r. ⌜ r ≡ wholeLine (row (now (s .entry)) ended) ⌝ }
+{
+    if Cursor::COLUMNS < s.len() {
+        return Field::No(Field::LINE_LONG);
+    }
+    if !scan::plain(s) {
+        return Field::No(Field::LINE_BYTE);
+    }
+    if ended {
+        Field::Read
+    } else {
+        Field::No(Field::LINE_OPEN)
+    }
+}
+
+// Line 1: `bound R`.
+pub fn first_line(s: &[u8], at: Cursor) -> FirstLine
+    ensures { λ r. ⌜ r ≡ firstLine (now (s .entry)) at ⌝ }
+{
+    let m = bound_word(s, at);
+    let f = m.field;
+    let Field::Read = f else {
+        return FirstLine::Refused(number(f));
+    };
+    let a = m.at;
+    let n = range(s, a);
+    let g = n.field;
+    let Field::Read = g else {
+        return FirstLine::Refused(number(g));
+    };
+    let o = bound_end(s, n.at);
+    let h = o.field;
+    let Field::Read = h else {
+        return FirstLine::Refused(number(h));
+    };
+    FirstLine::Bound(number_at(s, a.column))
+}
+
+fn else_line(s: &[u8], at: Cursor, p: Step) -> StepLine
+    ensures { λ r. ⌜ r ≡ elseLine (now (s .entry)) at p ⌝ }
+{
+    let m = else_word(s, at);
+    let f = m.field;
+    let Field::Read = f else {
+        return StepLine::Refused(number(f));
+    };
+    let o = m.at;
+    let n = other_label(s, o);
+    let g = n.field;
+    let Field::Read = g else {
+        return StepLine::Refused(number(g));
+    };
+    StepLine::Line(Step {
+        kind: p.kind,
+        name: p.name,
+        variable: p.variable,
+        equals: p.equals,
+        value: p.value,
+        to: p.to,
+        end: p.end,
+        other: o.column,
+    })
+}
+
+fn end_line(s: &[u8], at: Cursor, p: Step) -> StepLine
+    ensures { λ r. ⌜ r ≡ endLine (now (s .entry)) at p ⌝ }
+{
+    let m = step_end(s, at);
+    let f = m.field;
+    let Field::Read = f else {
+        return StepLine::Refused(number(f));
+    };
+    StepLine::Line(p)
+}
+
+fn goto_line(s: &[u8], at: Cursor, p: Step) -> StepLine
+    ensures { λ r. ⌜ r ≡ gotoLine (now (s .entry)) at p ⌝ }
+{
+    let m = goto_word(s, at);
+    let f = m.field;
+    let Field::Read = f else {
+        return StepLine::Refused(number(f));
+    };
+    let l = m.at;
+    let n = to_label(s, l);
+    let g = n.field;
+    let Field::Read = g else {
+        return StepLine::Refused(number(g));
+    };
+    let e = n.at;
+    let q = Step {
+        kind: p.kind,
+        name: p.name,
+        variable: p.variable,
+        equals: p.equals,
+        value: p.value,
+        to: l.column,
+        end: e.column,
+        other: 0,
+    };
+    if p.kind == 4 {
+        else_line(s, e, q)
+    } else {
+        end_line(s, e, q)
+    }
+}
+
+fn bit_of(b: u8) -> u8
+    ensures { λ r. ⌜ r ≡ bitOf b ⌝ }
+{
+    if b == b'1' { 1 } else { 0 }
+}
+
+fn test_line(s: &[u8], at: Cursor, p: Step) -> StepLine
+    ensures { λ r. ⌜ r ≡ testLine (now (s .entry)) at p ⌝ }
+{
+    let m = variable(s, at);
+    let f = m.field;
+    let Field::Read = f else {
+        return StepLine::Refused(number(f));
+    };
+    let a = m.at;
+    let n = equals(s, a);
+    let g = n.field;
+    let Field::Read = g else {
+        return StepLine::Refused(number(g));
+    };
+    let b = n.at;
+    let o = bit(s, b);
+    let h = o.field;
+    let Field::Read = h else {
+        return StepLine::Refused(number(h));
+    };
+    let v = bit_of(scan::byte_at(s, b.column));
+    let q = Step {
+        kind: p.kind,
+        name: p.name,
+        variable: at.column,
+        equals: a.column,
+        value: v,
+        to: 0,
+        end: 0,
+        other: 0,
+    };
+    goto_line(s, o.at, q)
+}
+
+fn begun(kind: u8, name: usize) -> Step
+    ensures { λ r. ⌜ r ≡ begunStep kind name ⌝ }
+{
+    Step {
+        kind,
+        name,
+        variable: 0,
+        equals: 0,
+        value: 0,
+        to: 0,
+        end: 0,
+        other: 0,
+    }
+}
+
+fn kind_line(s: &[u8], b: Cursor, name: usize) -> StepLine
+    ensures { λ r. ⌜ r ≡ kindLine (now (s .entry)) b name ⌝ }
+{
+    let at = b.column;
+    if scan::follows(s, at, b"maybe ") {
+        return goto_line(
+            s,
+            Cursor {
+                line: b.line,
+                column: at + 5,
+            },
+            begun(1, name),
+        );
+    }
+    if scan::follows(s, at, b"critical ") {
+        return goto_line(
+            s,
+            Cursor {
+                line: b.line,
+                column: at + 8,
+            },
+            begun(2, name),
+        );
+    }
+    if scan::follows(s, at, b"if ") {
+        return test_line(
+            s,
+            Cursor {
+                line: b.line,
+                column: at + 3,
+            },
+            begun(4, name),
+        );
+    }
+    test_line(s, b, begun(3, name))
+}
+
+// A step line: its name, 12, 13, and then by kind. The steps so far have count labels.
+pub fn step_line(labels: &[u8], count: usize, s: &[u8], at: Cursor) -> StepLine
+    ensures { λ r. ⌜ r ≡ stepLine (now (labels .entry)) count (now (s .entry)) at ⌝ }
+{
+    let m = name(s, at);
+    let f = m.field;
+    let Field::Read = f else {
+        return StepLine::Refused(number(f));
+    };
+    let a = m.at;
+    let from = at.column;
+    let to = a.column;
+    let w = scan::find(labels, count, s, from, to);
+    let Found::Nothing = w else {
+        return StepLine::Refused(Field::NAME_USED);
+    };
+    let n = space(s, a);
+    let g = n.field;
+    let Field::Read = g else {
+        return StepLine::Refused(number(g));
+    };
+    kind_line(s, n.at, to)
+}

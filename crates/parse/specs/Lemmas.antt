@@ -1,0 +1,115 @@
+-- Lemma lines (document 01, 'The job text'): 'A lemma is 1 to 64 names, each with at most one `~`, between any number of spaces.'
+use Prim.Native.Nat.{ℕ, _+_, _*_}
+use mathlib.Core.Bool.{Bool, true, false, cond}
+use mathlib.Core.List.{List, [], _∷_}
+use lib.Dec.{eqb, leb}
+use lib.IntN.{ℤ, pos, negℤ}
+use lib.ListN.{length, set}
+use Rattle.lists.specs.Rows.{num}
+use Rattle.lists.specs.Tests.{within}
+use Rattle.job.specs.Limits.{maxLemmas, maxNames}
+use Rattle.job.specs.declared.Job.{Job}
+use Rattle.job.specs.declared.Program.{Program}
+use Rattle.scan.specs.Bytes.{starts}
+use Rattle.scan.specs.Lines.{Row}
+use Rattle.scan.specs.Names.{lookup}
+use Rattle.scan.specs.declared.Found.{Found}
+use Rattle.scan.specs.declared.Found.the-variants.{At, Nothing}
+use Rattle.fields.specs.Fields.{wholeLine}
+use Rattle.fields.specs.declared.Field.{Field}
+use Rattle.fields.specs.declared.Field.the-variants.{Read, No}
+use Rattle.parse.specs.Answers.{refuse, accept, then, by, pick}
+use Rattle.parse.specs.declared.Verdict.{Verdict}
+use Rattle.parse.specs.declared.Reading.{Reading}
+
+-- ---- words
+
+-- a byte that is no space, in front of the rest of its line and that rest's words
+unfoldable pub onto : ℕ → List ℕ → List (List ℕ) → List (List ℕ)
+onto b [] ws = (b ∷ []) ∷ ws
+onto b (c ∷ cs) [] = (b ∷ []) ∷ []
+onto b (c ∷ cs) (w ∷ ws) = cond (eqb c 32) ((b ∷ []) ∷ (w ∷ ws)) ((b ∷ w) ∷ ws)
+
+-- the words of a line, 'between any number of spaces'
+unfoldable pub words : List ℕ → List (List ℕ)
+words [] = []
+words (b ∷ bs) = cond (eqb b 32) (words bs) (onto b bs (words bs))
+
+-- ---- names
+
+-- the name behind 'at most one `~`'
+unfoldable pub bare : List ℕ → List ℕ
+bare [] = []
+bare (b ∷ bs) = cond (eqb b 126) bs (b ∷ bs)
+
+abbrev pub negated : List ℕ → Bool
+negated w = starts (126 ∷ []) w
+
+-- 'item c is step c up to m, then variables'; 0 where there is no such name
+abbrev pub itemAt : Found → Found → ℕ → ℕ
+itemAt (At i) v m = i + 1
+itemAt Nothing (At i) m = m + i + 1
+itemAt Nothing Nothing m = 0
+
+-- a name has 1 to 4 bytes
+unfoldable pub itemIn : List ℕ → List ℕ → ℕ → ℕ → List ℕ → ℕ
+itemIn labels names m n w = cond (within 1 4 (length w)) (itemAt (lookup labels m w) (lookup names n w) m) 0
+
+abbrev pub itemOf : Job → List ℕ → ℕ
+itemOf j w = itemIn (j .labels) (j .names) (j .program .steps) (j .program .variables) w
+
+abbrev pub signed : Bool → ℕ → ℤ
+signed true i = negℤ (pos i)
+signed false i = pos i
+
+-- ---- one lemma
+
+-- name k of the lemma that is read
+abbrev pub withItem : Job → ℕ → ℤ → Job
+withItem j k z = record {
+  program = j .program;
+  labels = j .labels;
+  names = j .names;
+  lemmas = j .lemmas;
+  lengths = j .lengths;
+  items = set (j .items) (j .lemmas * maxNames + k) z;
+}
+
+-- it has k names
+abbrev pub closed : Job → ℕ → Job
+closed j k = record {
+  program = j .program;
+  labels = j .labels;
+  names = j .names;
+  lemmas = j .lemmas + 1;
+  lengths = set (j .lengths) (j .lemmas) k;
+  items = j .items;
+}
+
+-- 43 'name unknown'
+unfoldable pub named : Job → ℕ → ℕ → ℤ → ℕ → Reading
+named j n k z i = pick (eqb i 0) (refuse 43 n) (accept (withItem j k z))
+
+-- the names from name k on: '44 comes before that name is looked up'; 42 'lemma empty'
+unfoldable pub lemma : Job → ℕ → ℕ → List (List ℕ) → Reading
+lemma j n k [] = pick (eqb k 0) (refuse 42 n) (accept (closed j k))
+lemma j n k (w ∷ ws) =
+    let i = itemOf j (bare w) in
+    then (pick (leb maxNames k) (refuse 44 n) (named j n k (signed (negated w) i) i)) λ e.
+    lemma e n (k + 1) ws
+
+-- ---- all lemmas
+
+-- 2, 3, 4 of line n
+unfoldable pub whole : Field → ℕ → Reading → Reading
+whole Read n rest = rest
+whole (No number) n rest = refuse number n
+
+-- 41 '101st lemma'
+unfoldable pub lemmaLine : Job → Row → ℕ → Reading
+lemmaLine j l n = whole (wholeLine l) n (pick (leb maxLemmas (j .lemmas)) (refuse 41 n) (lemma j n 0 (words (l .bytes))))
+
+-- 'then lemma lines (perhaps none) to the end': those after the first n lines
+unfoldable pub lemmaLines : Job → ℕ → List Row → Reading
+lemmaLines j n [] = accept j
+lemmaLines j n (l ∷ ls) = then (lemmaLine j l (n + 1)) λ e. lemmaLines e (n + 1) ls

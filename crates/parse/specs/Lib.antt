@@ -1,0 +1,6 @@
+-- Reading a job (document 01, 'The job text' and 'What is turned away'): its lines in scan, its fields in fields,
+-- its program in program, and here what is checked at `lemmas`, the lemmas, and the whole.
+pub mod Answers
+pub mod Labels
+pub mod Lemmas
+pub mod Reading

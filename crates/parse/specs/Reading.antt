@@ -1,0 +1,22 @@
+-- Reading a job (document 01, 'The job text', 'What is turned away').
+use Prim.Native.Nat.{ℕ}
+use mathlib.Core.List.{List}
+use lib.ListN.{drop}
+use Rattle.scan.specs.Lines.{lines}
+use Rattle.program.specs.Program.{programOf}
+use Rattle.program.specs.declared.Draft.{Draft}
+use Rattle.program.specs.declared.End.{End}
+use Rattle.program.specs.declared.End.the-variants.{Lemmas, Refused}
+use Rattle.parse.specs.Answers.{refuse, then, by}
+use Rattle.parse.specs.Labels.{atLemmas}
+use Rattle.parse.specs.Lemmas.{lemmaLines}
+use Rattle.parse.specs.declared.Reading.{Reading}
+
+-- line n is `lemmas`, and the lemma lines begin at at
+unfoldable pub fromLemmas : List ℕ → End → Draft → Reading
+fromLemmas text (Lemmas n at) d = then (atLemmas d n) λ j. lemmaLines j n (lines (drop at text))
+fromLemmas text (Refused number place) d = refuse number place
+
+-- 1 first, line 1, the program lines, the checks at `lemmas`, and then the lemma lines
+unfoldable pub reading : List ℕ → Reading
+reading text = fromLemmas text (programOf text .end) (programOf text .draft)

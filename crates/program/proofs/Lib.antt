@@ -1,0 +1,4 @@
+-- The laws of the definitions, by file of the definitions.
+pub mod DraftLaws
+pub mod ProgramLineLaws
+pub mod ProgramLaws

@@ -1,0 +1,103 @@
+use Rattle.program.proofs.ProgramLineLaws.{picked, passed, is-step, no-step}
+use Rattle.program.specs.declared.Next.the-variants.{More}
+use Rattle.program.specs.declared.Draft.{Draft}
+use Rattle.program.specs.ProgramLine.{programLine, lined, isComment, numberOf}
+use borrow.Author.Tests.{le-leb, lt-leb}
+use mathlib.Core.Path.{_∙_, sym, ap}
+use borrow.Author.Needs.{needs}
+use Rattle.program.proofs.program_line.Statement.{statement}
+use Rattle.program.proofs.program_line.Tie as tie
+use Rattle.program.proofs.program_line.Reads as reads
+use Rattle.program.proofs.program_line.Lts as lts
+use Rattle.fields.proofs.step_line.Reads as step-line-reads
+use Rattle.program.proofs.add_step.Reads as add-step-reads
+use Rattle.program.proofs.is_lemmas.Reads as is-lemmas-reads
+use Rattle.program.proofs.number.Reads as number-reads
+use Rattle.scan.proofs.follows.Reads as follows-reads
+
+-- src/lib.rt:183:8
+is-lemmas-requires : tie.Need-is-lemmas-requires
+is-lemmas-requires c κs = search needs
+
+-- src/lib.rt:184:9
+returns : tie.Need-returns
+unfolding programLine
+returns c = picked _ _ _ (sym (c .before .is-lemmas .ensures) ∙ c .if1 .taken)
+
+-- src/lib.rt:186:28
+slice-aggregate-follows : tie.Need-slice-aggregate-follows
+slice-aggregate-follows c = search needs
+
+-- src/lib.rt:186:8
+follows-requires : tie.Need-follows-requires
+follows-requires c κs = search needs
+
+-- src/lib.rt:187:9
+returns-2 : tie.Need-returns-2
+unfolding programLine isComment
+returns-2 c = picked _ _ _ (sym (c .before .follows .ensures) ∙ c .if2 .taken) ∙ passed _ _ _ (sym (c .before .before .before .before .is-lemmas .ensures) ∙ c .before .before .before .if1 .left)
+
+-- src/lib.rt:191:9
+returns-3 : tie.Need-returns-3
+unfolding programLine isComment
+returns-3 c = picked _ _ _ (le-leb _ _ (c .if3 .taken))
+    ∙ passed _ _ _ (sym (c .before .before .follows .ensures) ∙ c .before .if2 .left)
+    ∙ passed _ _ _ (sym (c .before .before .before .before .before .is-lemmas .ensures) ∙ c .before .before .before .before .if1 .left)
+
+-- src/lib.rt:193:9
+step-line-requires : tie.Need-step-line-requires
+step-line-requires c κs = search needs
+
+-- src/lib.rt:194:24
+enum-known-l : tie.Need-enum-known-l
+enum-known-l c = search needs
+
+-- src/lib.rt:195:39
+enum-told : tie.Need-enum-told
+enum-told c = search needs
+
+-- src/lib.rt:195:39
+number-requires : tie.Need-number-requires
+number-requires c κs = search needs
+
+-- src/lib.rt:195:9
+returns-4 : tie.Need-returns-4
+unfolding programLine isComment
+returns-4 c = let a = c .before .before .before .before .before .before .before .before .before .before .before .before .before .before .args in
+    let l = sym (c .before .before .before .step-line .ensures) ∙ c .before .enum-told .given .1 in
+    no-step (a .t1) (a .s .now) (a .n) _ _ _ l (c .number .ensures ∙ ap numberOf (c .before .before .before .step-line .ensures))
+    ∙ passed _ _ _ (lt-leb _ _ (c .before .before .before .before .before .before .before .if3 .left))
+    ∙ passed _ _ _ (sym (c .before .before .before .before .before .before .before .before .before .follows .ensures) ∙ c .before .before .before .before .before .before .before .before .if2 .left)
+    ∙ passed _ _ _ (sym (c .before .before .before .before .before .before .before .before .before .before .before .before .is-lemmas .ensures) ∙ c .before .before .before .before .before .before .before .before .before .before .before .if1 .left)
+
+-- src/lib.rt:197:9
+add-step-requires : tie.Need-add-step-requires
+add-step-requires c κs = search needs
+
+-- src/lib.rt:179:1
+returns-5 : tie.Need-returns-5
+unfolding programLine isComment
+returns-5 c = let a = c .before .before .before .before .before .before .before .before .before .before .before .before .before .before .before .args in
+    ap (λ (d : Draft). lined More d) (c .add-step .ensures)
+    ∙ is-step (a .t1) (a .s .now) (a .n) _ (c .before .before .l .given .0 .0) (sym (c .before .before .before .before .step-line .ensures) ∙ c .before .before .l .given .1)
+    ∙ passed _ _ _ (lt-leb _ _ (c .before .before .before .before .before .before .before .before .if3 .left))
+    ∙ passed _ _ _ (sym (c .before .before .before .before .before .before .before .before .before .before .follows .ensures) ∙ c .before .before .before .before .before .before .before .before .before .if2 .left)
+    ∙ passed _ _ _ (sym (c .before .before .before .before .before .before .before .before .before .before .before .before .before .is-lemmas .ensures) ∙ c .before .before .before .before .before .before .before .before .before .before .before .before .if1 .left)
+
+pub program-line-spec : {M : Type 1} → statement M
+program-line-spec =
+    tie.close
+    (tie.spec
+    is-lemmas-requires
+    returns
+    slice-aggregate-follows
+    follows-requires
+    returns-2
+    returns-3
+    step-line-requires
+    enum-known-l
+    enum-told
+    number-requires
+    returns-4
+    add-step-requires
+    returns-5)
