@@ -51,7 +51,6 @@ module _ (f f′ : Field) (d : Draft) (rest : Lined) (e : f ≡ f′) where
 
 -- ---- what holds of every way out
 
-
 pub pick-all : (P : Lined → Type 0) (b : Bool) (x y : Lined) → P x → (b ≡ false → P y) → P (pick b x y)
 unfolding pick
 pick-all P true x y h k = h

@@ -8,7 +8,6 @@ ghost use Rattle.scan.specs.Lines.{row, lines};
 ghost use Rattle.program.specs.Draft.{put4, blank as blankDraft, mention, processOf, otherEnd, enter, addStep};
 ghost use Rattle.program.specs.ProgramLine.{isLemmas, numberOf, programLine, lineOf};
 ghost use Rattle.program.specs.Program.{refuse, stop, program as programFrom, wrongOf, programOf};
-
 use fields::Cursor;
 use fields::Field;
 use fields::FirstLine;
@@ -165,7 +164,11 @@ fn add_step(d: Draft, s: &[u8], p: Step, n: usize) -> Draft
 fn is_lemmas(s: &[u8]) -> bool
     ensures { λ r. ⌜ r ≡ isLemmas (now (s .entry)) ⌝ }
 {
-    if s.len() == 6 { scan::follows(s, 0, b"lemmas") } else { false }
+    if s.len() == 6 {
+        scan::follows(s, 0, b"lemmas")
+    } else {
+        false
+    }
 }
 
 fn number(l: StepLine) -> u8
@@ -183,21 +186,36 @@ fn program_line(d: Draft, s: &[u8], n: usize) -> Lined
     ensures { λ r. ⌜ r ≡ programLine d (now (s .entry)) n ⌝ }
 {
     if is_lemmas(s) {
-        return Lined { next: Next::Lemmas, draft: d };
+        return Lined {
+            next: Next::Lemmas,
+            draft: d,
+        };
     }
     if scan::follows(s, 0, b"~") {
-        return Lined { next: Next::More, draft: d };
+        return Lined {
+            next: Next::More,
+            draft: d,
+        };
     }
     let k = d.program.steps;
     if Job::STEPS <= k {
-        return Lined { next: Next::No(Draft::MANY_STEPS), draft: d };
+        return Lined {
+            next: Next::No(Draft::MANY_STEPS),
+            draft: d,
+        };
     }
     let l = fields::step_line(&d.labels, k, s, Cursor { line: n, column: 0 });
     let StepLine::Line(p) = l else {
-        return Lined { next: Next::No(number(l)), draft: d };
+        return Lined {
+            next: Next::No(number(l)),
+            draft: d,
+        };
     };
     let e = add_step(d, s, p, n);
-    Lined { next: Next::More, draft: e }
+    Lined {
+        next: Next::More,
+        draft: e,
+    }
 }
 
 // Line n, whose LF is there or not.
@@ -207,7 +225,10 @@ fn line_of(d: Draft, s: &[u8], ended: bool, n: usize) -> Lined
 {
     let f = fields::line(s, ended);
     let Field::Read = f else {
-        return Lined { next: Next::No(fields::number(f)), draft: d };
+        return Lined {
+            next: Next::No(fields::number(f)),
+            draft: d,
+        };
     };
     program_line(d, s, n)
 }
@@ -216,7 +237,10 @@ fn refused(number: u8, place: usize) -> Outcome
     ensures { λ r. ⌜ r ≡ refuse number place ⌝ }
 {
     let draft = blank(0);
-    Outcome { end: End::Refused(number, place), draft }
+    Outcome {
+        end: End::Refused(number, place),
+        draft,
+    }
 }
 
 // What follows line n where it is no plain program line.
@@ -225,7 +249,10 @@ fn stopped(next: Next, d: Draft, n: usize, at: usize) -> Outcome
 {
     match next {
         Next::More => refused(0, 0),
-        Next::Lemmas => Outcome { end: End::Lemmas(n, at), draft: d },
+        Next::Lemmas => Outcome {
+            end: End::Lemmas(n, at),
+            draft: d,
+        },
         Next::No(k) => refused(k, n),
     }
 }

@@ -6,3 +6,5 @@ pub mod ToldLaws
 pub mod TextsLaws
 pub mod PutLaws
 pub mod WholeLaws
+pub mod NameLaws
+pub mod GroupLaws

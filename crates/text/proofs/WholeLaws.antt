@@ -13,7 +13,7 @@ module _ (text old : List ℕ) where
   unfolding printed withText
   too-long h = (rw (lt-leb _ _ h), rw (lt-leb _ _ h))
 
-  pub given-whole : (new : List ℕ) (next : ℕ) → length text ≤ length old → Put old 0 text next new
+  pub given-whole : {most next : ℕ} {new : List ℕ} → length text ≤ length old → Put most old 0 text next new
       → (Bytes (length text) ≡ printed text old) × (new ≡ withText text old)
   unfolding printed withText
-  given-whole new next h p = (rw (le-leb _ _ h), rw (le-leb _ _ h) (p .holds))
+  given-whole h p = (rw (le-leb _ _ h), rw (le-leb _ _ h) (p .holds))

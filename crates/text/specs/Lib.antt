@@ -4,4 +4,5 @@ pub mod Texts
 pub mod Dimacs
 pub mod Whole
 pub mod Lines
+pub mod RunText
 pub mod Put

@@ -1,7 +1,7 @@
 // What the programs print (document 01, 'A job in full'), made in lent buffers.
 ghost use mathlib.Core.Path.{_≡_};
 ghost use mathlib.Core.List.{[], _∷_};
-ghost use Prim.Native.Nat.{ℕ, _+_, _-_, _≤_, _<_};
+ghost use Prim.Native.Nat.{ℕ, suc, _+_, _*_, _-_, _≤_, _<_};
 ghost use lib.IntN.{ℤ, natAbs};
 ghost use lib.ListN.{length};
 ghost use Rattle.lists.specs.Writing.{write};
@@ -11,6 +11,9 @@ ghost use Rattle.text.specs.Dimacs.{told, numberText};
 ghost use Rattle.text.specs.Whole.{printed, withText};
 ghost use Rattle.text.specs.Lines.{sentence, header, refused};
 ghost use Rattle.text.specs.Put.{Put};
+ghost use Rattle.text.specs.RunText.{nameAt, word, bitText, turnText, stepsText, lineText, runLine, runLines};
+ghost use Rattle.job.specs.Limits.{maxSteps, maxBound};
+ghost use Rattle.lists.specs.Rows.{each, num};
 use job::Refusal;
 
 // How many whole texts were written, and their bytes.
@@ -111,7 +114,7 @@ pub fn numbers_text(numbers: &[i32], out: &mut [u8]) -> Texted
 
 fn put_part(out: &mut [u8], at: usize, part: &[u8]) -> usize
     requires { ⌜ at + length (now part) ≤ length (now out) ⌝ }
-    ensures { λ r. ⌜ Put (now (out .entry)) at (now (part .entry)) r (now (out .exit)) ⌝ }
+    ensures { λ r. ⌜ Put (length (now (part .entry))) (now (out .entry)) at (now (part .entry)) r (now (out .exit)) ⌝ }
 {
     let mut i: usize = 0;
     while i < part.len() {
@@ -123,15 +126,15 @@ fn put_part(out: &mut [u8], at: usize, part: &[u8]) -> usize
 
 fn put_byte(out: &mut [u8], at: usize, b: u8) -> usize
     requires { ⌜ at < length (now out) ⌝ }
-    ensures { λ r. ⌜ Put (now (out .entry)) at (b ∷ []) r (now (out .exit)) ⌝ }
+    ensures { λ r. ⌜ Put 1 (now (out .entry)) at (b ∷ []) r (now (out .exit)) ⌝ }
 {
     out[at] = b;
     at + 1
 }
 
 fn put_number(out: &mut [u8], at: usize, x: usize) -> usize
-    requires { ⌜ at + length (numeral x) ≤ length (now out) ⌝ }
-    ensures { λ r. ⌜ Put (now (out .entry)) at (numeral x) r (now (out .exit)) ⌝ }
+    requires { ⌜ at + 20 ≤ length (now out) ⌝ }
+    ensures { λ r. ⌜ Put 20 (now (out .entry)) at (numeral x) r (now (out .exit)) ⌝ }
 {
     let end = at + digits(x);
     put_digits(out, end, x);
@@ -149,10 +152,10 @@ fn give(text: &[u8], out: &mut [u8]) -> Printed
     Printed::Bytes(text.len())
 }
 
-// Two numbers, each behind its word: at most 8, 20, 4, 20 bytes and the LF.
+// Two numbers, each behind its word.
 fn put_sentence(out: &mut [u8], first: &[u8], x: usize, second: &[u8], y: usize) -> usize
-    requires { ⌜ (length (now first) ≤ 8) × (length (now second) ≤ 4) × (53 ≤ length (now out)) ⌝ }
-    ensures { λ r. ⌜ (r ≤ 53) × Put (now (out .entry)) 0 (sentence (now (first .entry)) x (now (second .entry)) y) r (now (out .exit)) ⌝ }
+    requires { ⌜ (length (now first) ≤ 8) × (length (now second) ≤ 8) × (57 ≤ length (now out)) ⌝ }
+    ensures { λ r. ⌜ Put 57 (now (out .entry)) 0 (sentence (now (first .entry)) x (now (second .entry)) y) r (now (out .exit)) ⌝ }
 {
     let a = put_part(&mut *out, 0, first);
     let b = put_number(&mut *out, a, x);
@@ -165,7 +168,7 @@ fn put_sentence(out: &mut [u8], first: &[u8], x: usize, second: &[u8], y: usize)
 pub fn header_text(variables: usize, clauses: usize, out: &mut [u8]) -> Printed
     ensures { λ r. ⌜ (r ≡ printed (header variables clauses) (now (out .entry))) × (now (out .exit) ≡ withText (header variables clauses) (now (out .entry))) ⌝ }
 {
-    let mut line = [0u8; 53];
+    let mut line = [0u8; 57];
     let end = put_sentence(&mut line, b"p cnf ", variables, b" ", clauses);
     give(&line[..end], out)
 }
@@ -174,7 +177,7 @@ pub fn header_text(variables: usize, clauses: usize, out: &mut [u8]) -> Printed
 pub fn refusal_text(refusal: Refusal, out: &mut [u8]) -> Printed
     ensures { λ r. ⌜ (r ≡ printed (refused refusal) (now (out .entry))) × (now (out .exit) ≡ withText (refused refusal) (now (out .entry))) ⌝ }
 {
-    let mut line = [0u8; 53];
+    let mut line = [0u8; 57];
     let end = put_sentence(
         &mut line,
         b"refused ",
@@ -183,4 +186,118 @@ pub fn refusal_text(refusal: Refusal, out: &mut [u8]) -> Printed
         refusal.place,
     );
     give(&line[..end], out)
+}
+
+// Name k of a table, up to its first 0.
+fn put_name(out: &mut [u8], at: usize, names: &[u8], k: usize) -> usize
+    requires { ⌜ (at + 4 ≤ length (now out)) × (k < 256) ⌝ }
+    ensures { λ r. ⌜ Put 4 (now (out .entry)) at (nameAt (now (names .entry)) k) r (now (out .exit)) ⌝ }
+{
+    let mut i: usize = 0;
+    while i < 4 {
+        let b = scan::byte_at(names, k * 4 + i);
+        if b == 0 {
+            return at + i;
+        }
+        out[at + i] = b;
+        i += 1;
+    }
+    at + i
+}
+
+fn put_word(out: &mut [u8], at: usize, names: &[u8], k: usize) -> usize
+    requires { ⌜ (at + 5 ≤ length (now out)) × (k < 256) ⌝ }
+    ensures { λ r. ⌜ Put 5 (now (out .entry)) at (word (now (names .entry)) k) r (now (out .exit)) ⌝ }
+{
+    let from = put_byte(&mut *out, at, 32);
+    put_name(out, from, names, k)
+}
+
+// `a=0` behind a space.
+fn put_bit(out: &mut [u8], at: usize, names: &[u8], x: usize, b: u8) -> usize
+    requires { ⌜ (at + 26 ≤ length (now out)) × (x < 256) ⌝ }
+    ensures { λ r. ⌜ Put 26 (now (out .entry)) at (bitText (now (names .entry)) x b) r (now (out .exit)) ⌝ }
+{
+    let c = put_word(&mut *out, at, names, x);
+    let d = put_byte(&mut *out, c, 61);
+    put_number(out, d, b as usize)
+}
+
+fn put_turn(out: &mut [u8], at: usize, b: u8) -> usize
+    requires { ⌜ at + 2 ≤ length (now out) ⌝ }
+    ensures { λ r. ⌜ Put 2 (now (out .entry)) at (turnText b) r (now (out .exit)) ⌝ }
+{
+    if b == 1 {
+        return put_part(out, at, b" A");
+    }
+    if b == 2 {
+        return put_part(out, at, b" B");
+    }
+    at
+}
+
+// Byte i of the group of time t.
+fn group_byte(run: &[u8], n: usize, t: usize, i: usize) -> u8
+    requires { ⌜ (n ≤ maxSteps) × (t ≤ maxBound) × (i < n + 3) ⌝ }
+    ensures { λ r. ⌜ r ≡ num (now (run .entry)) (t * (n + 3) + i) ⌝ }
+{
+    scan::byte_at(run, t * (n + 3) + i)
+}
+
+// The place of the name of a step with this number.
+fn place(b: u8) -> usize
+    ensures { λ r. ⌜ (r ≡ b - 1) × (r < 256) ⌝ }
+{
+    if b == 0 { 0 } else { b as usize - 1 }
+}
+
+// The bits of the group of time t.
+fn put_bits(out: &mut [u8], at: usize, names: &[u8], run: &[u8], n: usize, t: usize) -> usize
+    requires { ⌜ (at + n * 26 ≤ length (now out)) × (n ≤ maxSteps) × (t ≤ maxBound) ⌝ }
+    ensures { λ r. ⌜ Put (n * 26) (now (out .entry)) at (each n λ x. bitText (now (names .entry)) x (num (now (run .entry)) (t * (n + 3) + (2 + x)))) r (now (out .exit)) ⌝ }
+{
+    let mut end = at;
+    let mut x: usize = 0;
+    while x < n {
+        end = put_bit(&mut *out, end, names, x, group_byte(run, n, t, 2 + x));
+        x += 1;
+    }
+    end
+}
+
+// The step whose number is byte i of the group of time t.
+fn put_step(
+    out: &mut [u8],
+    at: usize,
+    labels: &[u8],
+    run: &[u8],
+    n: usize,
+    t: usize,
+    i: usize,
+) -> usize
+    requires { ⌜ (at + 5 ≤ length (now out)) × (n ≤ maxSteps) × (t ≤ maxBound) × (i < n + 3) ⌝ }
+    ensures { λ r. ⌜ Put 5 (now (out .entry)) at (word (now (labels .entry)) (num (now (run .entry)) (t * (n + 3) + i) - 1)) r (now (out .exit)) ⌝ }
+{
+    let k = place(group_byte(run, n, t, i));
+    put_word(out, at, labels, k)
+}
+
+fn put_steps(out: &mut [u8], labels: &[u8], run: &[u8], n: usize, t: usize) -> usize
+    requires { ⌜ (30 ≤ length (now out)) × (n ≤ maxSteps) × (t ≤ maxBound) ⌝ }
+    ensures { λ r. ⌜ Put 30 (now (out .entry)) 0 (stepsText (now (labels .entry)) (λ i. num (now (run .entry)) (t * (n + 3) + i)) t) r (now (out .exit)) ⌝ }
+{
+    let a = put_number(&mut *out, 0, t);
+    let b = put_step(&mut *out, a, labels, run, n, t, 0);
+    put_step(out, b, labels, run, n, t, 1)
+}
+
+// The line of time t.
+fn put_line(out: &mut [u8], labels: &[u8], names: &[u8], run: &[u8], n: usize, t: usize) -> usize
+    requires { ⌜ (30 + n * 26 + 2 + 1 ≤ length (now out)) × (n ≤ maxSteps) × (t ≤ maxBound) ⌝ }
+    ensures { λ r. ⌜ Put (30 + n * 26 + 2 + 1) (now (out .entry)) 0 (lineText (now (labels .entry)) (now (names .entry)) n (λ i. num (now (run .entry)) (t * (n + 3) + i)) t) r (now (out .exit)) ⌝ }
+{
+    let a = put_steps(&mut *out, labels, run, n, t);
+    let b = put_bits(&mut *out, a, names, run, n, t);
+    let c = put_turn(&mut *out, b, group_byte(run, n, t, 2 + n));
+    put_byte(out, c, 10)
 }

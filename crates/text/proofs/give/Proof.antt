@@ -15,7 +15,7 @@ same-length : tie.Need-same-length
 same-length c = search needs
 
 returns-2 : tie.Need-returns-2
-returns-2 c = given-whole (c .before .before .before .before .before .before .before .args .text .now) (c .before .before .before .before .before .before .before .args .out .now) _ _ (omega arith) (c .before .before .put-part .ensures)
+returns-2 c = given-whole (c .before .before .before .before .before .before .before .args .text .now) (c .before .before .before .before .before .before .before .args .out .now) (omega arith) (c .before .before .put-part .ensures)
 
 pub give-spec : {M : Type 1} → statement M
 give-spec = tie.close (tie.spec returns put-part-requires same-length returns-2)

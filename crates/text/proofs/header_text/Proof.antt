@@ -20,7 +20,7 @@ array-share-prefix-line : tie.Need-array-share-prefix-line
 array-share-prefix-line c = search needs
 
 slice-aggregate-give : tie.Need-slice-aggregate-give
-slice-aggregate-give c = front-length (c .before .before .put-sentence .ensures .1)
+slice-aggregate-give c = front-length (c .before .before .put-sentence .ensures)
 
 give-requires : tie.Need-give-requires
 give-requires c κs = search needs
@@ -29,7 +29,7 @@ same-length : tie.Need-same-length
 same-length c = search needs
 
 returns : tie.Need-returns
-returns c = let e = put-front (c .before .before .before .before .before .before .put-sentence .ensures .1) in
+returns c = let e = put-front (c .before .before .before .before .before .before .put-sentence .ensures) in
     rw (← e) (c .before .before .give .ensures)
 
 pub header-text-spec : {M : Type 1} → statement M

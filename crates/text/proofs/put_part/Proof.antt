@@ -52,7 +52,7 @@ same-length c = search needs
 returns : tie.Need-returns Inv-loop μ-loop
 returns c = let a = c .before .before .args in
     let e : c .before .loop .i ≡ length (a .part .now) = omega arith in
-    record { behind = omega arith; holds = c .before .loop .inv .1 ∙ rw (e, take-length (a .part .now)) }
+    record { short = omega arith; behind = omega arith; holds = c .before .loop .inv .1 ∙ rw (e, take-length (a .part .now)) }
 
 pub put-part-spec : {M : Type 1} → statement M
 put-part-spec =
