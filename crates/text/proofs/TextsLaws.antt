@@ -69,3 +69,8 @@ module _ (text : ℕ → List ℕ) (old : List ℕ) where
     pub begun-all : i ≡ n → (record { count = i; bytes = at } ≡ texted n text old) × (out ≡ withTexts n text old)
     unfolding fitting
     begun-all e = ended (rw (← e) (b .all-fit))
+
+-- no texts
+pub texts-none : (n : ℕ) (text : ℕ → List ℕ) (old : List ℕ) → n ≡ 0
+    → (record { count = 0; bytes = 0 } ≡ texted n text old) × (old ≡ withTexts n text old)
+texts-none n text old e = begun-all text old n 0 0 old (begun-none text old) (sym e)

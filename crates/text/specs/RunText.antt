@@ -24,18 +24,26 @@ word names k = space ∷ nameAt names k
 abbrev pub bitText : List ℕ → ℕ → ℕ → List ℕ
 bitText names x b = word names x ++ (equals ∷ []) ++ numeral b
 
+-- the bits of a group, whose bytes are A's step number, B's, each bit, turn
+abbrev pub bitsText : List ℕ → ℕ → (ℕ → ℕ) → List ℕ
+bitsText names n group = each n λ x. bitText names x (group (2 + x))
+
 -- 'turn (1 A, 2 B, 0 last)'
 unfoldable pub turnText : ℕ → List ℕ
 turnText b = cond (eqb b 1) (space ∷ 65 ∷ []) (cond (eqb b 2) (space ∷ 66 ∷ []) [])
 
--- time and steps; the group's bytes are A's step number, B's, each bit, turn
+-- time and steps
 unfoldable pub stepsText : List ℕ → (ℕ → ℕ) → ℕ → List ℕ
 stepsText labels group t = numeral t ++ word labels (group 0 - 1) ++ word labels (group 1 - 1)
 
 -- the line of time t
 unfoldable pub lineText : List ℕ → List ℕ → ℕ → (ℕ → ℕ) → ℕ → List ℕ
 lineText labels names n group t =
-    stepsText labels group t ++ each n (λ x. bitText names x (group (2 + x))) ++ turnText (group (2 + n)) ++ (lf ∷ [])
+    stepsText labels group t ++ bitsText names n group ++ turnText (group (2 + n)) ++ (lf ∷ [])
+
+-- byte i of the group of time t, as `groupByte` has it, of n variables
+abbrev pub groupOf : ℕ → List ℕ → ℕ → ℕ → ℕ
+groupOf n bs t i = num bs (t * (n + 3) + i)
 
 -- line t of a run
 abbrev pub runLine : Job → List ℕ → ℕ → List ℕ

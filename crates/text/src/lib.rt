@@ -11,9 +11,10 @@ ghost use Rattle.text.specs.Dimacs.{told, numberText};
 ghost use Rattle.text.specs.Whole.{printed, withText};
 ghost use Rattle.text.specs.Lines.{sentence, header, refused};
 ghost use Rattle.text.specs.Put.{Put};
-ghost use Rattle.text.specs.RunText.{nameAt, word, bitText, turnText, stepsText, lineText, runLine, runLines};
+ghost use Rattle.text.specs.RunText.{nameAt, word, bitText, bitsText, turnText, stepsText, lineText, groupOf, runLine, runLines};
 ghost use Rattle.job.specs.Limits.{maxSteps, maxBound};
-ghost use Rattle.lists.specs.Rows.{each, num};
+ghost use Rattle.lists.specs.Rows.{num};
+use job::Job;
 use job::Refusal;
 
 // How many whole texts were written, and their bytes.
@@ -239,7 +240,7 @@ fn put_turn(out: &mut [u8], at: usize, b: u8) -> usize
 // Byte i of the group of time t.
 fn group_byte(run: &[u8], n: usize, t: usize, i: usize) -> u8
     requires { ⌜ (n ≤ maxSteps) × (t ≤ maxBound) × (i < n + 3) ⌝ }
-    ensures { λ r. ⌜ r ≡ num (now (run .entry)) (t * (n + 3) + i) ⌝ }
+    ensures { λ r. ⌜ r ≡ groupOf n (now (run .entry)) t i ⌝ }
 {
     scan::byte_at(run, t * (n + 3) + i)
 }
@@ -254,7 +255,7 @@ fn place(b: u8) -> usize
 // The bits of the group of time t.
 fn put_bits(out: &mut [u8], at: usize, names: &[u8], run: &[u8], n: usize, t: usize) -> usize
     requires { ⌜ (at + n * 26 ≤ length (now out)) × (n ≤ maxSteps) × (t ≤ maxBound) ⌝ }
-    ensures { λ r. ⌜ Put (n * 26) (now (out .entry)) at (each n λ x. bitText (now (names .entry)) x (num (now (run .entry)) (t * (n + 3) + (2 + x)))) r (now (out .exit)) ⌝ }
+    ensures { λ r. ⌜ Put (n * 26) (now (out .entry)) at (bitsText (now (names .entry)) n (groupOf n (now (run .entry)) t)) r (now (out .exit)) ⌝ }
 {
     let mut end = at;
     let mut x: usize = 0;
@@ -276,7 +277,7 @@ fn put_step(
     i: usize,
 ) -> usize
     requires { ⌜ (at + 5 ≤ length (now out)) × (n ≤ maxSteps) × (t ≤ maxBound) × (i < n + 3) ⌝ }
-    ensures { λ r. ⌜ Put 5 (now (out .entry)) at (word (now (labels .entry)) (num (now (run .entry)) (t * (n + 3) + i) - 1)) r (now (out .exit)) ⌝ }
+    ensures { λ r. ⌜ Put 5 (now (out .entry)) at (word (now (labels .entry)) (groupOf n (now (run .entry)) t i - 1)) r (now (out .exit)) ⌝ }
 {
     let k = place(group_byte(run, n, t, i));
     put_word(out, at, labels, k)
@@ -284,7 +285,7 @@ fn put_step(
 
 fn put_steps(out: &mut [u8], labels: &[u8], run: &[u8], n: usize, t: usize) -> usize
     requires { ⌜ (30 ≤ length (now out)) × (n ≤ maxSteps) × (t ≤ maxBound) ⌝ }
-    ensures { λ r. ⌜ Put 30 (now (out .entry)) 0 (stepsText (now (labels .entry)) (λ i. num (now (run .entry)) (t * (n + 3) + i)) t) r (now (out .exit)) ⌝ }
+    ensures { λ r. ⌜ Put 30 (now (out .entry)) 0 (stepsText (now (labels .entry)) (groupOf n (now (run .entry)) t) t) r (now (out .exit)) ⌝ }
 {
     let a = put_number(&mut *out, 0, t);
     let b = put_step(&mut *out, a, labels, run, n, t, 0);
@@ -294,10 +295,52 @@ fn put_steps(out: &mut [u8], labels: &[u8], run: &[u8], n: usize, t: usize) -> u
 // The line of time t.
 fn put_line(out: &mut [u8], labels: &[u8], names: &[u8], run: &[u8], n: usize, t: usize) -> usize
     requires { ⌜ (30 + n * 26 + 2 + 1 ≤ length (now out)) × (n ≤ maxSteps) × (t ≤ maxBound) ⌝ }
-    ensures { λ r. ⌜ Put (30 + n * 26 + 2 + 1) (now (out .entry)) 0 (lineText (now (labels .entry)) (now (names .entry)) n (λ i. num (now (run .entry)) (t * (n + 3) + i)) t) r (now (out .exit)) ⌝ }
+    ensures { λ r. ⌜ Put (30 + n * 26 + 2 + 1) (now (out .entry)) 0 (lineText (now (labels .entry)) (now (names .entry)) n (groupOf n (now (run .entry)) t) t) r (now (out .exit)) ⌝ }
 {
     let a = put_steps(&mut *out, labels, run, n, t);
     let b = put_bits(&mut *out, a, names, run, n, t);
     let c = put_turn(&mut *out, b, group_byte(run, n, t, 2 + n));
     put_byte(out, c, 10)
+}
+
+// Each line is made in an array of its own and goes behind the others where it fits.
+fn put_lines<'a>(
+    out: &mut [u8],
+    labels: &'a [u8],
+    names: &'a [u8],
+    run: &[u8],
+    n: usize,
+    r: usize,
+) -> Texted
+    requires { ⌜ (n ≤ maxSteps) × (r ≤ maxBound) ⌝ }
+    ensures { λ x. ⌜ (x ≡ texted (suc r) (λ t. lineText (now (labels .entry)) (now (names .entry)) n (groupOf n (now (run .entry)) t) t) (now (out .entry))) × (now (out .exit) ≡ withTexts (suc r) (λ t. lineText (now (labels .entry)) (now (names .entry)) n (groupOf n (now (run .entry)) t) t) (now (out .entry))) ⌝ }
+{
+    let mut line = [0u8; 33 + 26 * Job::STEPS];
+    let mut count: usize = 0;
+    let mut bytes: usize = 0;
+    while count <= r {
+        let end = put_line(&mut line, labels, names, run, n, count);
+        if out.len() - bytes < end {
+            return Texted { count, bytes };
+        }
+        put_part(&mut *out, bytes, &line[..end]);
+        bytes += end;
+        count += 1;
+    }
+    Texted { count, bytes }
+}
+
+// The lines of a run: whole ones while the next one fits.
+pub fn run_text(j: Job, run: &[u8], out: &mut [u8]) -> Texted
+    ensures { λ x. ⌜ (x ≡ texted (runLines j) (runLine j (now (run .entry))) (now (out .entry))) × (now (out .exit) ≡ withTexts (runLines j) (runLine j (now (run .entry))) (now (out .entry))) ⌝ }
+{
+    let r = j.program.bound;
+    let n = j.program.variables;
+    if Job::BOUND < r {
+        return Texted { count: 0, bytes: 0 };
+    }
+    if Job::STEPS < n {
+        return Texted { count: 0, bytes: 0 };
+    }
+    put_lines(out, &j.labels, &j.names, run, n, r)
 }

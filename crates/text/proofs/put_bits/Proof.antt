@@ -1,30 +1,25 @@
 -- The texts of the bits before x stand one behind the other.
 use Prim.Native.Nat.{ℕ, _+_, _*_, _-_, _≤_}
 use mathlib.Core.Path.{_≡_}
-use mathlib.Core.List.{List}
 use native.Mathlib.Omega.{arith}
 use lib.ListN.{length}
-use Rattle.lists.specs.Rows.{each, num}
 use Rattle.text.specs.Put.{Put}
-use Rattle.text.specs.RunText.{bitText}
+use Rattle.text.specs.RunText.{bitText, bitsText, groupOf}
 use Rattle.text.proofs.PutLaws.{row-none, row-next, put-length}
 use borrow.Author.Needs.{needs}
 use Rattle.text.proofs.put_bits.Statement.{statement}
 use Rattle.text.proofs.put_bits.Tie as tie
 
-abbrev bitsOf : List ℕ → List ℕ → ℕ → ℕ → ℕ → List ℕ
-bitsOf names run n t x = bitText names x (num run (t * (n + 3) + (2 + x)))
-
 abbrev Inv-loop : tie.InvT-loop
 Inv-loop out₀ at names run n t end₀ x₀ out end x =
-    (x ≤ n) × Put (x * 26) out₀ at (each x (bitsOf names run n t)) end out × (length out ≡ length out₀)
+    (x ≤ n) × Put (x * 26) out₀ at (bitsText names x (groupOf n run t)) end out × (length out ≡ length out₀)
 
 abbrev μ-loop : tie.MeasureT-loop
 μ-loop out₀ at names run n t end₀ x₀ out end x = n - x
 
 loop-holds : tie.Need-loop-holds Inv-loop μ-loop
 loop-holds c = let a = c .before .before .before .args in
-    (omega arith, row-none 26 (bitsOf (a .names .now) (a .run .now) (a .n) (a .t)) (a .out .now) (a .at), search needs)
+    (omega arith, row-none 26 (λ x. bitText (a .names .now) x (groupOf (a .n) (a .run .now) (a .t) (2 + x))) (a .out .now) (a .at), search needs)
 
 add-group-byte : tie.Need-add-group-byte Inv-loop μ-loop
 add-group-byte c = search needs
@@ -46,7 +41,7 @@ loop-again c = let a = c .before .before .before .before .before .before .before
     let o = c .before .before .before .before .before .before .loop in
     let room = c .before .before .before .before .before .before .before .before .before .before .pre .0 in
     let bit = rw (c .before .before .before .group-byte .ensures) at (c .before .before .put-bit .ensures) in
-    let next = row-next 26 (bitsOf (a .names .now) (a .run .now) (a .n) (a .t)) (a .out .now) (a .at) (o .x) (o .inv .1) bit (omega (arith, room)) in
+    let next = row-next 26 (λ x. bitText (a .names .now) x (groupOf (a .n) (a .run .now) (a .t) (2 + x))) (a .out .now) (a .at) (o .x) (o .inv .1) bit (omega (arith, room)) in
     (omega arith, next, put-length next (omega (arith, room)))
 
 same-length : tie.Need-same-length Inv-loop μ-loop
