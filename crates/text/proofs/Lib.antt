@@ -8,3 +8,4 @@ pub mod PutLaws
 pub mod WholeLaws
 pub mod NameLaws
 pub mod GroupLaws
+pub mod Examples

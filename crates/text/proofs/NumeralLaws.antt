@@ -1,6 +1,6 @@
 -- Laws of numerals: the last digit and those before it, and how many there are.
 use mathlib.Core.Path.{_≡_, refl, sym, ap, _∙_}
-use mathlib.Core.Bool.{Bool, true, false, cond}
+use mathlib.Core.Bool.{Bool, true, false}
 use mathlib.Core.Logic.{_⊎_, inl, inr}
 use mathlib.Core.List.{List, [], _∷_, _++_}
 use Prim.Native.Nat.{ℕ, zero, suc, _+_, _*_, _^_, _≤_, _<_, _/_, _%_}
@@ -9,7 +9,7 @@ use borrow.Author.Tests.{ltb-true, ltb-false, lt-ltb, le-ltb}
 use lib.Dec.{ltb}
 use lib.ListN.{length, length-append}
 use Rattle.lists.proofs.Logic.{split}
-use Rattle.text.specs.Numerals.{digit, digitsBelow, numeral}
+use Rattle.text.specs.Numerals.{digit, higher, digitsBelow, numeral}
 
 -- the digits are the same for every k above x
 enough : (k j x : ℕ) → x < k → x < j → digitsBelow k x ≡ digitsBelow j x
@@ -51,7 +51,7 @@ unfolding digitsBelow
 length-below zero x = omega arith
 length-below (suc k) x = rw length-append (go (ltb x 10) (length-below k (x / 10)))
   where
-    go : (b : Bool) → length (digitsBelow k (x / 10)) ≤ k → length (cond b [] (digitsBelow k (x / 10))) + 1 ≤ suc k
+    go : (b : Bool) → length (digitsBelow k (x / 10)) ≤ k → length (higher b (digitsBelow k) (x / 10)) + 1 ≤ suc k
     go true h = omega arith
     go false h = omega arith
 

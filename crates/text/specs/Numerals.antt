@@ -1,5 +1,5 @@
 -- Bytes, and numbers in decimal.
-use mathlib.Core.Bool.{cond}
+use mathlib.Core.Bool.{Bool, true, false}
 use mathlib.Core.List.{List, [], _∷_, _++_}
 use Prim.Native.Nat.{ℕ, zero, suc, _+_, _/_, _%_}
 use lib.Dec.{ltb}
@@ -20,10 +20,15 @@ minus = 45
 abbrev pub digit : ℕ → ℕ
 digit d = 48 + d
 
--- the digits of x, which is below k: those of x / 10, where there are any, and the last
+-- the digits of y, where there are any
+abbrev pub higher : Bool → (ℕ → List ℕ) → ℕ → List ℕ
+higher true digits y = []
+higher false digits y = digits y
+
+-- the digits of x, which is below k: those of x / 10, and the last
 unfoldable pub digitsBelow : ℕ → ℕ → List ℕ
 digitsBelow zero x = []
-digitsBelow (suc k) x = cond (ltb x 10) [] (digitsBelow k (x / 10)) ++ (digit (x % 10) ∷ [])
+digitsBelow (suc k) x = higher (ltb x 10) (digitsBelow k) (x / 10) ++ (digit (x % 10) ∷ [])
 
 -- a number in decimal
 unfoldable pub numeral : ℕ → List ℕ
