@@ -32,8 +32,11 @@ zeros = withoutLemmas (blank 0) (blank 0 .program)
 abbrev pub refusal : ℕ → ℕ → Verdict
 refusal number place = Refused (record { number = number; place = place })
 
+abbrev pub deny : Verdict → Reading
+deny v = record { verdict = v; job = zeros }
+
 abbrev pub refuse : ℕ → ℕ → Reading
-refuse number place = record { verdict = refusal number place; job = zeros }
+refuse number place = deny (refusal number place)
 
 abbrev pub accept : Job → Reading
 accept j = record { verdict = Accepted; job = j }
@@ -41,7 +44,7 @@ accept j = record { verdict = Accepted; job = j }
 -- what is read so far goes on, or is refused
 unfoldable pub by : Verdict → Job → (Job → Reading) → Reading
 by Accepted j rest = rest j
-by (Refused r) j rest = record { verdict = Refused r; job = zeros }
+by (Refused r) j rest = deny (Refused r)
 
 abbrev pub then : Reading → (Job → Reading) → Reading
 then r rest = by (r .verdict) (r .job) rest

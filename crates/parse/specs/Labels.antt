@@ -12,7 +12,7 @@ use Rattle.scan.specs.Names.{lookup}
 use Rattle.scan.specs.declared.Found.{Found}
 use Rattle.scan.specs.declared.Found.the-variants.{At, Nothing}
 use Rattle.program.specs.declared.Draft.{Draft}
-use Rattle.parse.specs.Answers.{refusal, refuse, accept, pick, withoutLemmas}
+use Rattle.parse.specs.Answers.{refusal, refuse, deny, accept, pick, withoutLemmas}
 use Rattle.parse.specs.declared.Verdict.{Verdict}
 use Rattle.parse.specs.declared.Verdict.the-variants.{Accepted, Refused}
 use Rattle.parse.specs.declared.Reading.{Reading}
@@ -107,8 +107,8 @@ link d (suc k) = thenLink (link d k) (linkStep d k)
 
 -- 55 'both first steps critical'
 unfoldable pub started : Draft → ℕ → Verdict → Program → Reading
-started d n Accepted P = pick (bothCritical P) (refuse 55 n) (accept (withoutLemmas d P))
-started d n (Refused r) P = refuse (r .number) (r .place)
+started d n Accepted P = pick (bothCritical (d .program)) (refuse 55 n) (accept (withoutLemmas d P))
+started d n (Refused r) P = deny (Refused r)
 
 -- 99 'no step of A', 98 'no step of B'
 unfoldable pub atLemmas : Draft → ℕ → Reading

@@ -17,6 +17,11 @@ unfoldable pub fromLemmas : List ℕ → End → Draft → Reading
 fromLemmas text (Lemmas n at) d = then (atLemmas d n) λ j. lemmaLines j n (lines (drop at text))
 fromLemmas text (Refused number place) d = refuse number place
 
+-- the same of an end that is a refusal
+abbrev pub stop : End → Reading
+stop (Lemmas n at) = refuse 0 0
+stop (Refused number place) = refuse number place
+
 -- 1 first, line 1, the program lines, the checks at `lemmas`, and then the lemma lines
 unfoldable pub reading : List ℕ → Reading
 reading text = fromLemmas text (programOf text .end) (programOf text .draft)

@@ -2,3 +2,4 @@
 pub mod DraftLaws
 pub mod ProgramLineLaws
 pub mod ProgramLaws
+pub mod ReachedLaws

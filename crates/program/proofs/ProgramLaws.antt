@@ -106,9 +106,18 @@ module _ (text : List ℕ) where
   unfolding programOf
   fits h k = rw (within-is 1 maxText (length text) h k)
 
--- the first line and the rest
-pub line-1 : (l : Row) (ls : List Row)
-    → whole (wholeLine l) (opened (firstLine (l .bytes) (record { line = 1; column = 0 })) λ r. program (blank r) (length (l .bytes) + 1) 1 ls)
-    ≡ fromLine1 (l ∷ ls)
+-- line 1, which ends at e, and the rest
+pub from-line-1 : (text : List ℕ) (e : ℕ) → 1 ≤ length text → length text ≤ maxText → e ≡ 0 + length (wordAt 10 text 0)
+    → let s = take (e - 0) (drop 0 text) in
+    whole (wholeLine (row s (ltb e (length text))))
+    (opened (firstLine s (record { line = 1; column = 0 })) λ r. program (blank r) (e + 1) 1 (lines (drop (e + 1) text)))
+    ≡ programOf text
 unfolding fromLine1
-line-1 l ls = refl
+from-line-1 text e h m k =
+    let s : List ℕ = take (e - 0) (drop 0 text) in
+    let one : length s + 1 ≡ e + 1 = omega (arith, line-ends text 0 e (omega arith) k) in
+    ap
+    (λ (n : ℕ). whole (wholeLine (row s (ltb e (length text)))) (opened (firstLine s (record { line = 1; column = 0 })) λ r. program (blank r) n 1 (lines (drop (e + 1) text))))
+    (sym one)
+    ∙ ap fromLine1 (sym (lines-at text 0 e (omega arith) k))
+    ∙ fits text h m

@@ -59,7 +59,8 @@ pub struct Lined {
     pub draft: Draft,
 }
 
-fn blank(bound: usize) -> Draft
+// The draft of no steps.
+pub fn blank(bound: usize) -> Draft
     ensures { λ r. ⌜ r ≡ blankDraft bound ⌝ }
 {
     Draft {

@@ -1,28 +1,20 @@
+-- `is_lemmas` compares the length and then the bytes.
 use Rattle.program.specs.ProgramLine.{isLemmas}
 use borrow.Author.Tests.{eq-eqb, ne-eqb}
-use mathlib.Core.Bool.{Bool, _&&_}
-use mathlib.Core.Path.{_∙_, ap, sym}
 use borrow.Author.Needs.{needs}
 use Rattle.program.proofs.is_lemmas.Statement.{statement}
 use Rattle.program.proofs.is_lemmas.Tie as tie
-use Rattle.program.proofs.is_lemmas.Reads as reads
-use Rattle.program.proofs.is_lemmas.Lts as lts
-use Rattle.scan.proofs.follows.Reads as follows-reads
 
--- src/lib.rt:166:43
 slice-aggregate-follows : tie.Need-slice-aggregate-follows
 slice-aggregate-follows c = search needs
 
--- src/lib.rt:166:23
 follows-requires : tie.Need-follows-requires
 follows-requires c κs = search needs
 
--- src/lib.rt:163:1
 returns : tie.Need-returns
 unfolding isLemmas
 returns c = rw (c .follows .ensures, eq-eqb _ _ (c .before .before .if1 .taken))
 
--- src/lib.rt:163:1
 returns-2 : tie.Need-returns-2
 unfolding isLemmas
 returns-2 c = rw (ne-eqb _ _ (c .if1 .left))

@@ -1,68 +1,52 @@
+-- `mentioned` goes by what the scan found: an index below the count, so its number fits a byte, or a new name.
 use Rattle.program.specs.Draft.{mentionAt}
 use Rattle.scan.proofs.NameLaws.{lookup-below}
 use lib.Seq.{slice}
 use native.Mathlib.Omega.{arith}
-use mathlib.Core.Path.{_≡_, sym, ap, _∙_}
+use mathlib.Core.Path.{sym, ap, _∙_}
 use borrow.Author.Needs.{needs}
 use Rattle.program.proofs.mentioned.Statement.{statement}
 use Rattle.program.proofs.mentioned.Tie as tie
-use Rattle.program.proofs.mentioned.Reads as reads
-use Rattle.program.proofs.mentioned.Lts as lts
-use Rattle.program.proofs.put.Reads as put-reads
-use Rattle.scan.proofs.find.Reads as find-reads
 
--- src/lib.rt:106:9
 find-requires : tie.Need-find-requires
 find-requires c κs = search needs
 
--- src/lib.rt:108:19
 enum-known-f : tie.Need-enum-known-f
 enum-known-f c = search needs
 
--- src/lib.rt:109:30
 add-p : tie.Need-add-p
 add-p c = let a = c .before .before .before .before .before .before .before .before .before .args in
     omega (arith, lookup-below (a .d .names) (a .d .program .variables) (slice (a .from) (a .to) (a .s .now)) (c .before .f .given .0 .0) (sym (c .before .before .before .find .ensures) ∙ c .before .f .given .1))
 
--- src/lib.rt:109:29
 cast-p : tie.Need-cast-p
 cast-p c = let a = c .before .before .before .before .before .before .before .before .before .args in
     omega (arith, lookup-below (a .d .names) (a .d .program .variables) (slice (a .from) (a .to) (a .s .now)) (c .before .f .given .0 .0) (sym (c .before .before .before .find .ensures) ∙ c .before .f .given .1))
 
--- src/lib.rt:109:13
 element-write-p : tie.Need-element-write-p
 element-write-p c = search needs
 
--- src/lib.rt:114:17
 enum-told : tie.Need-enum-told
 enum-told c = search needs
 
--- src/lib.rt:114:13
 put-requires : tie.Need-put-requires
 put-requires c κs = search needs
 
--- src/lib.rt:115:27
 add-p-2 : tie.Need-add-p-2
 add-p-2 c = search needs
 
--- src/lib.rt:116:30
 add-p-3 : tie.Need-add-p-3
 add-p-3 c = search needs
 
--- src/lib.rt:116:29
 cast-p-2 : tie.Need-cast-p-2
 cast-p-2 c = search needs
 
--- src/lib.rt:116:13
 element-write-p-2 : tie.Need-element-write-p-2
 element-write-p-2 c = search needs
 
--- src/lib.rt:98:1
 returns : tie.Need-returns
 unfolding mentionAt
 returns c = let a = c .before .before .before .before .before .before .before .before .before .args in ap (mentionAt (a .d) (slice (a .from) (a .to) (a .s .now))) (sym (c .before .f .given .1) ∙ c .before .before .before .find .ensures)
 
--- src/lib.rt:98:1
 returns-2 : tie.Need-returns-2
 unfolding mentionAt
 returns-2 c = let a = c .before .before .before .before .before .before .before .before .before .before .args in

@@ -1,3 +1,4 @@
+-- `program_line` goes by `lemmas`, a comment, 7 and the step line, in that order.
 use Rattle.program.proofs.ProgramLineLaws.{picked, passed, is-step, no-step}
 use Rattle.program.specs.declared.Next.the-variants.{More}
 use Rattle.program.specs.declared.Draft.{Draft}
@@ -7,60 +8,42 @@ use mathlib.Core.Path.{_∙_, sym, ap}
 use borrow.Author.Needs.{needs}
 use Rattle.program.proofs.program_line.Statement.{statement}
 use Rattle.program.proofs.program_line.Tie as tie
-use Rattle.program.proofs.program_line.Reads as reads
-use Rattle.program.proofs.program_line.Lts as lts
-use Rattle.fields.proofs.step_line.Reads as step-line-reads
-use Rattle.program.proofs.add_step.Reads as add-step-reads
-use Rattle.program.proofs.is_lemmas.Reads as is-lemmas-reads
-use Rattle.program.proofs.number.Reads as number-reads
-use Rattle.scan.proofs.follows.Reads as follows-reads
 
--- src/lib.rt:183:8
 is-lemmas-requires : tie.Need-is-lemmas-requires
 is-lemmas-requires c κs = search needs
 
--- src/lib.rt:184:9
 returns : tie.Need-returns
 unfolding programLine
 returns c = picked _ _ _ (sym (c .before .is-lemmas .ensures) ∙ c .if1 .taken)
 
--- src/lib.rt:186:28
 slice-aggregate-follows : tie.Need-slice-aggregate-follows
 slice-aggregate-follows c = search needs
 
--- src/lib.rt:186:8
 follows-requires : tie.Need-follows-requires
 follows-requires c κs = search needs
 
--- src/lib.rt:187:9
 returns-2 : tie.Need-returns-2
 unfolding programLine isComment
 returns-2 c = picked _ _ _ (sym (c .before .follows .ensures) ∙ c .if2 .taken) ∙ passed _ _ _ (sym (c .before .before .before .before .is-lemmas .ensures) ∙ c .before .before .before .if1 .left)
 
--- src/lib.rt:191:9
 returns-3 : tie.Need-returns-3
 unfolding programLine isComment
 returns-3 c = picked _ _ _ (le-leb _ _ (c .if3 .taken))
     ∙ passed _ _ _ (sym (c .before .before .follows .ensures) ∙ c .before .if2 .left)
     ∙ passed _ _ _ (sym (c .before .before .before .before .before .is-lemmas .ensures) ∙ c .before .before .before .before .if1 .left)
 
--- src/lib.rt:193:9
 step-line-requires : tie.Need-step-line-requires
 step-line-requires c κs = search needs
 
--- src/lib.rt:194:24
 enum-known-l : tie.Need-enum-known-l
 enum-known-l c = search needs
 
--- src/lib.rt:195:39
 enum-told : tie.Need-enum-told
 enum-told c = search needs
 
--- src/lib.rt:195:39
 number-requires : tie.Need-number-requires
 number-requires c κs = search needs
 
--- src/lib.rt:195:9
 returns-4 : tie.Need-returns-4
 unfolding programLine isComment
 returns-4 c = let a = c .before .before .before .before .before .before .before .before .before .before .before .before .before .before .args in
@@ -70,11 +53,9 @@ returns-4 c = let a = c .before .before .before .before .before .before .before 
     ∙ passed _ _ _ (sym (c .before .before .before .before .before .before .before .before .before .follows .ensures) ∙ c .before .before .before .before .before .before .before .before .if2 .left)
     ∙ passed _ _ _ (sym (c .before .before .before .before .before .before .before .before .before .before .before .before .is-lemmas .ensures) ∙ c .before .before .before .before .before .before .before .before .before .before .before .if1 .left)
 
--- src/lib.rt:197:9
 add-step-requires : tie.Need-add-step-requires
 add-step-requires c κs = search needs
 
--- src/lib.rt:179:1
 returns-5 : tie.Need-returns-5
 unfolding programLine isComment
 returns-5 c = let a = c .before .before .before .before .before .before .before .before .before .before .before .before .before .before .before .args in

@@ -1,3 +1,4 @@
+-- `program_lines` reads line by line: what is left from here gives the answer of the whole.
 use Rattle.program.proofs.ProgramLaws.{line-within, program-turn, program-none, follow-more, not-more}
 use Rattle.program.proofs.ProgramLineLaws.{line-kept}
 use Rattle.program.proofs.DraftLaws.{Within}
@@ -8,17 +9,11 @@ use Rattle.scan.specs.Lines.{lines}
 use Rattle.job.specs.Limits.{maxText}
 use lib.ListN.{length, drop}
 use native.Mathlib.Omega.{arith}
-use Prim.Native.Nat.{ℕ, _+_, _-_, _≤_, _<_}
+use Prim.Native.Nat.{_+_, _-_, _≤_, _<_}
 use mathlib.Core.Path.{_≡_, _∙_, sym, ap, subst⁻¹, refl}
 use borrow.Author.Needs.{needs}
 use Rattle.program.proofs.program_lines.Statement.{statement}
 use Rattle.program.proofs.program_lines.Tie as tie
-use Rattle.program.proofs.program_lines.Reads as reads
-use Rattle.program.proofs.program_lines.Lts as lts
-use Rattle.program.proofs.line_of.Reads as line-of-reads
-use Rattle.program.proofs.refused.Reads as refused-reads
-use Rattle.program.proofs.stopped.Reads as stopped-reads
-use Rattle.scan.proofs.end_of.Reads as end-of-reads
 
 abbrev Inv-loop : tie.InvT-loop
 Inv-loop text from at₀ n₀ d₀ at n d =
@@ -51,79 +46,61 @@ kept c =
     let o = c .before .before .before .before in
     subst⁻¹ (λ (r : Lined). Within (r .draft)) (c .line-of .ensures) (line-kept (o .loop .d) _ (o .loop .n + 1) (o .loop .inv .2))
 
--- src/lib.rt:239:5
 loop-holds : tie.Need-loop-holds Inv-loop μ-loop
 loop-holds c = let p = c .before .pre in (p .0, p .2, (p .3, p .4), refl)
 
--- src/lib.rt:240:13
 end-of-requires : tie.Need-end-of-requires Inv-loop μ-loop
 end-of-requires c κs = search needs
 
--- src/lib.rt:241:28
 sub-line-of : tie.Need-sub-line-of Inv-loop μ-loop
 sub-line-of c = omega (arith, ends c)
 
--- src/lib.rt:241:28
 part-line-of-start : tie.Need-part-line-of-start Inv-loop μ-loop
 part-line-of-start c = omega (arith, ends c)
 
--- src/lib.rt:241:28
 part-line-of-end : tie.Need-part-line-of-end Inv-loop μ-loop
 part-line-of-end c = ends c .1
 
--- src/lib.rt:241:58
 add-line-of : tie.Need-add-line-of Inv-loop μ-loop
 add-line-of c = search needs
 
--- src/lib.rt:241:13
 line-of-requires : tie.Need-line-of-requires Inv-loop μ-loop
 line-of-requires c κs = c .before .before .before .loop .inv .2
 
 enum-told : tie.Need-enum-told Inv-loop μ-loop
 enum-told c = search needs
 
--- src/lib.rt:245:37
 add-stopped : tie.Need-add-stopped Inv-loop μ-loop
 add-stopped c = omega (arith, ends (c .before .before .before .before), c .before .before .before .before .before .before .before .before .pre)
 
--- src/lib.rt:245:44
 add-stopped-2 : tie.Need-add-stopped-2 Inv-loop μ-loop
 add-stopped-2 c = omega (arith, ends (c .before .before .before .before), c .before .before .before .before .before .before .before .before .pre)
 
--- src/lib.rt:245:13
 stopped-requires : tie.Need-stopped-requires Inv-loop μ-loop
 stopped-requires c κs = search needs
 
--- src/lib.rt:245:13
 returns : tie.Need-returns Inv-loop μ-loop
 returns c = c .stopped .ensures ∙ not-more _ (c .before .match .keys2) _ _ _ _ _ ∙ sym (turn (c .before .before .before))
 
--- src/lib.rt:247:14
 add-at : tie.Need-add-at Inv-loop μ-loop
 add-at c = omega (arith, ends (c .before .before .before .before .before), c .before .before .before .before .before .before .before .before .before .pre)
 
--- src/lib.rt:248:9
 add-n : tie.Need-add-n Inv-loop μ-loop
 add-n c = search needs
 
--- src/lib.rt:239:5
 loop-less : tie.Need-loop-less Inv-loop μ-loop
 loop-less c = omega (arith, ends (c .before .before .before .before .before))
 
--- src/lib.rt:239:5
 loop-again : tie.Need-loop-again Inv-loop μ-loop
 loop-again c = let e = ends (c .before .before .before .before .before) in
     (omega (arith, e, c .before .before .before .before .before .before .before .loop .inv), omega (arith, e, c .before .before .before .before .before .before .before .before .before .pre), kept (c .before .before .before), turn (c .before .before .before) ∙ follow-more _ _ _ _ _ (c .enum-told .given .1))
 
--- src/lib.rt:250:31
 add-refused : tie.Need-add-refused Inv-loop μ-loop
 add-refused c = search needs
 
--- src/lib.rt:250:5
 refused-requires : tie.Need-refused-requires Inv-loop μ-loop
 refused-requires c κs = search needs
 
--- src/lib.rt:232:1
 returns-2 : tie.Need-returns-2 Inv-loop μ-loop
 returns-2 c = let o = c .before .before in
     let none = lines-out (c .before .before .before .before .args .text .now) (o .loop .at) (omega arith) in

@@ -1,44 +1,34 @@
+-- `stopped` goes by what the line led to.
 use Rattle.program.specs.Program.{follow, stop}
 use Rattle.program.specs.declared.Next.{Next}
 use mathlib.Core.Path.{_∙_, sym, ap}
 use borrow.Author.Needs.{needs}
 use Rattle.program.proofs.stopped.Statement.{statement}
 use Rattle.program.proofs.stopped.Tie as tie
-use Rattle.program.proofs.stopped.Reads as reads
-use Rattle.program.proofs.stopped.Lts as lts
-use Rattle.program.proofs.refused.Reads as refused-reads
 
--- src/lib.rt:225:23
 enum-told : tie.Need-enum-told
 enum-told c = search needs
 
--- src/lib.rt:225:23
 refused-requires : tie.Need-refused-requires
 refused-requires c κs = search needs
 
--- src/lib.rt:226:40
 enum-told-2 : tie.Need-enum-told-2
 enum-told-2 c = search needs
 
--- src/lib.rt:227:18
 enum-known-next : tie.Need-enum-known-next
 enum-known-next c = search needs
 
--- src/lib.rt:227:24
 refused-requires-2 : tie.Need-refused-requires-2
 refused-requires-2 c κs = search needs
 
--- src/lib.rt:221:1
 returns : tie.Need-returns
 unfolding follow
 returns c = let a = c .before .before .before .args in c .refused .ensures ∙ ap (λ (x : Next). stop x (a .d) (a .n) (a .at)) (sym (c .before .enum-told .given .1))
 
--- src/lib.rt:221:1
 returns-2 : tie.Need-returns-2
 unfolding follow
 returns-2 c = let a = c .before .before .args in ap (λ (x : Next). stop x (a .d) (a .n) (a .at)) (sym (c .enum-told2 .given .1))
 
--- src/lib.rt:221:1
 returns-3 : tie.Need-returns-3
 unfolding follow
 returns-3 c = let a = c .before .before .before .before .args in c .refused2 .ensures ∙ ap (λ (x : Next). stop x (a .d) (a .n) (a .at)) (sym (c .before .before .next .given .1))

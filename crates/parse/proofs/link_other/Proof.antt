@@ -1,0 +1,71 @@
+-- `link_other` enters M, a step of this job, or refuses the step's line.
+use Rattle.parse.proofs.LabelLaws.{target-is, other-no, other-step}
+use Rattle.parse.specs.declared.Verdict.{Verdict}
+use Rattle.parse.specs.Labels.{linked, aim}
+use lib.Seq.{slice}
+use Prim.Native.Nat.{_+_, _*_}
+use native.Mathlib.Omega.{arith}
+use mathlib.Core.Path.{_∙_, sym, ap}
+use borrow.Author.Needs.{needs}
+use Rattle.parse.proofs.link_other.Statement.{statement}
+use Rattle.parse.proofs.link_other.Tie as tie
+
+aim-requires : tie.Need-aim-requires
+aim-requires c κs = search needs
+
+enum-known-t : tie.Need-enum-known-t
+enum-known-t c = search needs
+
+enum-told : tie.Need-enum-told
+enum-told c = search needs
+
+number-requires : tie.Need-number-requires
+number-requires c κs = search needs
+
+mul-refusal : tie.Need-mul-refusal
+mul-refusal c = search needs
+
+element-copy-out-refusal : tie.Need-element-copy-out-refusal
+element-copy-out-refusal c = search needs
+
+refusal-requires : tie.Need-refusal-requires
+refusal-requires c κs = search needs
+
+returns : tie.Need-returns
+unfolding aim
+returns c = let p = c .before .before .before .before .before .before .before .before .before .before .before .before .args .p in
+    ap (λ (v : Verdict). linked v p) (c .refusal .ensures)
+    ∙ other-no p (c .before .before .before .before .before .before .before .before .before .before .before .before .args .k) _ (c .before .before .before .before .before .aim .result) _ (c .before .before .before .before .before .aim .ensures) _ _ (c .before .before .before .enum-told .given .1) (c .before .before .number .ensures)
+
+cast-q : tie.Need-cast-q
+cast-q c = let d = c .before .before .before .before .before .before .before .before .before .before .args .t1 in
+    let k = c .before .before .before .before .before .before .before .before .before .before .args .k in
+    let w = slice (k * 4) (k * 4 + 4) (d .other) in
+    omega (arith, target-is (d .program .process) (d .labels) (d .program .steps) k w (c .before .t .given .0 .0) (sym (c .before .before .before .aim .ensures) ∙ c .before .t .given .1), c .before .before .before .before .before .before .before .before .before .before .pre)
+
+mul-q : tie.Need-mul-q
+mul-q c = search needs
+
+element-write-q : tie.Need-element-write-q
+element-write-q c = search needs
+
+returns-2 : tie.Need-returns-2
+unfolding aim
+returns-2 c = other-step (c .before .before .before .before .before .before .before .before .before .before .args .p) (c .before .before .before .before .before .before .before .before .before .before .args .k) _ (c .before .before .before .aim .result) _ (c .before .before .before .aim .ensures) (c .before .t .given .0 .0) (c .before .t .given .1)
+
+pub link-other-spec : {M : Type 1} → statement M
+link-other-spec =
+    tie.close
+    (tie.spec
+    aim-requires
+    enum-known-t
+    enum-told
+    number-requires
+    mul-refusal
+    element-copy-out-refusal
+    refusal-requires
+    returns
+    cast-q
+    mul-q
+    element-write-q
+    returns-2)
