@@ -10,6 +10,11 @@ use Rattle.lists.specs.Places.{passing, first}
 use Rattle.lists.specs.Tests.{every}
 use Rattle.job.specs.declared.Job.{Job}
 use Rattle.job.specs.OneBit.{oneBit}
+use Rattle.scan.specs.Bytes.{starts}
+use Rattle.scan.specs.Lines.{lines, push}
+use Rattle.program.specs.ProgramLine.{isLemmas, isComment}
+use Rattle.text.specs.Comments.{remarks, comments}
+use Rattle.text.specs.Comments as Comments
 use Rattle.text.specs.Numerals.{digitsBelow, numeral}
 use Rattle.text.specs.Dimacs.{told, numberText}
 use Rattle.text.specs.Texts.{fitting, texted, withTexts}
@@ -68,3 +73,17 @@ run = refl
 run-lines : runLines (oneBit 1 0 [] []) ≡ 2
 unfolding oneBit runLines every
 run-lines = refl
+
+-- 01's job, with the lemma `~a` behind it: `c ~ one bit`
+unfoldable job : List ℕ
+job =
+    (98 ∷ 111 ∷ 117 ∷ 110 ∷ 100 ∷ 32 ∷ 49 ∷ 10 ∷ [])
+    ++ (126 ∷ 32 ∷ 111 ∷ 110 ∷ 101 ∷ 32 ∷ 98 ∷ 105 ∷ 116 ∷ 10 ∷ [])
+    ++ (65 ∷ 48 ∷ 32 ∷ 97 ∷ 61 ∷ 49 ∷ 32 ∷ 103 ∷ 111 ∷ 116 ∷ 111 ∷ 32 ∷ 65 ∷ 48 ∷ 10 ∷ [])
+    ++ (66 ∷ 48 ∷ 32 ∷ 109 ∷ 97 ∷ 121 ∷ 98 ∷ 101 ∷ 32 ∷ 103 ∷ 111 ∷ 116 ∷ 111 ∷ 32 ∷ 66 ∷ 48 ∷ 10 ∷ [])
+    ++ (108 ∷ 101 ∷ 109 ∷ 109 ∷ 97 ∷ 115 ∷ 10 ∷ [])
+    ++ (126 ∷ 97 ∷ 10 ∷ [])
+
+remark : comments job ≡ 99 ∷ 32 ∷ 126 ∷ 32 ∷ 111 ∷ 110 ∷ 101 ∷ 32 ∷ 98 ∷ 105 ∷ 116 ∷ 10 ∷ []
+unfolding job comments remarks Comments.remark isLemmas isComment lines push starts
+remark = refl

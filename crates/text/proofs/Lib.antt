@@ -8,4 +8,5 @@ pub mod PutLaws
 pub mod WholeLaws
 pub mod NameLaws
 pub mod GroupLaws
+pub mod CommentLaws
 pub mod Examples

@@ -4,16 +4,16 @@ use mathlib.Core.List.{List}
 use Prim.Native.Nat.{ℕ, _≤_, _<_}
 use borrow.Author.Tests.{le-leb, lt-leb}
 use lib.ListN.{length}
+use Rattle.lists.specs.Writing.{write}
 use Rattle.text.specs.declared.Printed.the-variants.{Bytes, Short}
 use Rattle.text.specs.Whole.{printed, withText}
-use Rattle.text.specs.Put.{Put}
 
 module _ (text old : List ℕ) where
   pub too-long : length old < length text → (Short ≡ printed text old) × (old ≡ withText text old)
   unfolding printed withText
   too-long h = (rw (lt-leb _ _ h), rw (lt-leb _ _ h))
 
-  pub given-whole : {most next : ℕ} {new : List ℕ} → length text ≤ length old → Put most old 0 text next new
-      → (Bytes (length text) ≡ printed text old) × (new ≡ withText text old)
+  pub given-whole : (n : ℕ) (new : List ℕ) → n ≡ length text → length text ≤ length old → new ≡ write old 0 text
+      → (Bytes n ≡ printed text old) × (new ≡ withText text old)
   unfolding printed withText
-  given-whole h p = (rw (le-leb _ _ h), rw (le-leb _ _ h) (p .holds))
+  given-whole n new e h w = (rw (le-leb _ _ h, e), rw (le-leb _ _ h) w)

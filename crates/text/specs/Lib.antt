@@ -5,4 +5,5 @@ pub mod Dimacs
 pub mod Whole
 pub mod Lines
 pub mod RunText
+pub mod Comments
 pub mod Put

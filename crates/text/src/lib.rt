@@ -3,7 +3,8 @@ ghost use mathlib.Core.Path.{_≡_};
 ghost use mathlib.Core.List.{[], _∷_};
 ghost use Prim.Native.Nat.{ℕ, suc, _+_, _*_, _-_, _≤_, _<_};
 ghost use lib.IntN.{ℤ, natAbs};
-ghost use lib.ListN.{length};
+ghost use lib.Dec.{leb};
+ghost use lib.ListN.{length, drop};
 ghost use Rattle.lists.specs.Writing.{write};
 ghost use Rattle.text.specs.Numerals.{numeral};
 ghost use Rattle.text.specs.Texts.{texted, withTexts};
@@ -12,6 +13,8 @@ ghost use Rattle.text.specs.Whole.{printed, withText};
 ghost use Rattle.text.specs.Lines.{sentence, header, refused};
 ghost use Rattle.text.specs.Put.{Put};
 ghost use Rattle.text.specs.RunText.{nameAt, word, bitText, bitsText, turnText, stepsText, lineText, groupOf, runLine, runLines};
+ghost use Rattle.text.specs.Comments.{remark, remarks, comments};
+ghost use Rattle.scan.specs.Lines.{lines};
 ghost use Rattle.job.specs.Limits.{maxSteps, maxBound};
 ghost use Rattle.lists.specs.Rows.{num};
 use job::Job;
@@ -343,4 +346,77 @@ pub fn run_text(j: Job, run: &[u8], out: &mut [u8]) -> Texted
         return Texted { count: 0, bytes: 0 };
     }
     put_lines(out, &j.labels, &j.names, run, n, r)
+}
+
+fn remark_length(line: &[u8]) -> usize
+    ensures { λ r. ⌜ r ≡ length (remark (now (line .entry))) ⌝ }
+{
+    if scan::follows(line, 0, b"~") {
+        line.len() + 3
+    } else {
+        0
+    }
+}
+
+fn put_remark(out: &mut [u8], at: usize, line: &[u8]) -> usize
+    requires { ⌜ at + length (remark (now line)) ≤ length (now out) ⌝ }
+    ensures { λ r. ⌜ Put (length (remark (now (line .entry)))) (now (out .entry)) at (remark (now (line .entry))) r (now (out .exit)) ⌝ }
+{
+    if scan::follows(line, 0, b"~") {
+        let a = put_part(&mut *out, at, b"c ");
+        let b = put_part(&mut *out, a, line);
+        return put_byte(&mut *out, b, 10);
+    }
+    at
+}
+
+// The comments of the lines from place `from` on take no more than this room.
+fn remarks_fit(text: &[u8], from: usize, room: usize) -> bool
+    ensures { λ r. ⌜ r ≡ leb (length (remarks (lines (drop from (now (text .entry)))))) room ⌝ }
+{
+    let mut at = from;
+    let mut left = room;
+    while at < text.len() {
+        let e = scan::end_of(text, at, 10);
+        let line = &text[at..e];
+        if program::is_lemmas(line) {
+            return true;
+        }
+        let n = remark_length(line);
+        if left < n {
+            return false;
+        }
+        left -= n;
+        at = e + 1;
+    }
+    true
+}
+
+fn put_remarks(out: &mut [u8], text: &[u8], from: usize) -> usize
+    requires { ⌜ length (remarks (lines (drop from (now text)))) ≤ length (now out) ⌝ }
+    ensures { λ r. ⌜ (r ≡ length (remarks (lines (drop from (now (text .entry)))))) × (now (out .exit) ≡ write (now (out .entry)) 0 (remarks (lines (drop from (now (text .entry)))))) ⌝ }
+{
+    let mut at = from;
+    let mut end: usize = 0;
+    while at < text.len() {
+        let e = scan::end_of(text, at, 10);
+        let line = &text[at..e];
+        if program::is_lemmas(line) {
+            return end;
+        }
+        end = put_remark(&mut *out, end, line);
+        at = e + 1;
+    }
+    end
+}
+
+// The comments of a job text's program.
+pub fn comment_text(text: &[u8], out: &mut [u8]) -> Printed
+    ensures { λ r. ⌜ (r ≡ printed (comments (now (text .entry))) (now (out .entry))) × (now (out .exit) ≡ withText (comments (now (text .entry))) (now (out .entry))) ⌝ }
+{
+    let from = scan::end_of(text, 0, 10) + 1;
+    if remarks_fit(text, from, out.len()) {
+        return Printed::Bytes(put_remarks(out, text, from));
+    }
+    Printed::Short
 }

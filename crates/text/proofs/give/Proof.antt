@@ -1,4 +1,5 @@
 -- A text that is longer than the buffer is left; another is put at its front.
+use mathlib.Core.Path.{refl}
 use native.Mathlib.Omega.{arith}
 use Rattle.text.proofs.WholeLaws.{too-long, given-whole}
 use borrow.Author.Needs.{needs}
@@ -15,7 +16,7 @@ same-length : tie.Need-same-length
 same-length c = search needs
 
 returns-2 : tie.Need-returns-2
-returns-2 c = given-whole (c .before .before .before .before .before .before .before .args .text .now) (c .before .before .before .before .before .before .before .args .out .now) (omega arith) (c .before .before .put-part .ensures)
+returns-2 c = given-whole (c .before .before .before .before .before .before .before .args .text .now) (c .before .before .before .before .before .before .before .args .out .now) _ _ refl (omega arith) (c .before .before .put-part .ensures .holds)
 
 pub give-spec : {M : Type 1} → statement M
 give-spec = tie.close (tie.spec returns put-part-requires same-length returns-2)
