@@ -27,10 +27,16 @@ same-length : tie.Need-same-length
 same-length c = search needs
 
 returns : tie.Need-returns
-returns c = let e = left-first (c .before .before .before .before .before .before .before .before .before .args .text .now) (c .before .before .before .before .before .before .end-of .result) (c .before .before .before .before .before .before .end-of .ensures) in
-    let h = leb-true _ _ (sym (c .before .before .before .before .before .remarks-fit .ensures) ∙ c .before .before .before .before .if1 .taken) in
-    let p = c .before .before .put-remarks .ensures in
-    rw (← e) (given-whole _ (c .before .before .before .before .before .before .before .before .before .args .out .now) _ _ (p .0) h (p .1))
+returns c =
+    let at-put-remarks = c .before .before in
+    let at-if1 = at-put-remarks .before .before in
+    let at-remarks-fit = at-if1 .before in
+    let at-end-of = at-remarks-fit .before in
+    let start = at-end-of .before .before .before in
+    let e = left-first (start .args .text .now) (at-end-of .end-of .result) (at-end-of .end-of .ensures) in
+    let h = leb-true _ _ (sym (at-remarks-fit .remarks-fit .ensures) ∙ at-if1 .if1 .taken) in
+    let p = at-put-remarks .put-remarks .ensures in
+    rw (← e) (given-whole _ (start .args .out .now) _ _ (p .0) h (p .1))
 
 returns-2 : tie.Need-returns-2
 returns-2 c = let e = left-first (c .before .before .before .before .before .args .text .now) (c .before .before .end-of .result) (c .before .before .end-of .ensures) in

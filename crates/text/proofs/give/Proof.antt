@@ -16,7 +16,10 @@ same-length : tie.Need-same-length
 same-length c = search needs
 
 returns-2 : tie.Need-returns-2
-returns-2 c = given-whole (c .before .before .before .before .before .before .before .args .text .now) (c .before .before .before .before .before .before .before .args .out .now) _ _ refl (omega arith) (c .before .before .put-part .ensures .holds)
+returns-2 c =
+    let at-put-part = c .before .before in
+    let start = at-put-part .before .before .before .before .before in
+    given-whole (start .args .text .now) (start .args .out .now) _ _ refl (omega arith) (at-put-part .put-part .ensures .holds)
 
 pub give-spec : {M : Type 1} → statement M
 give-spec = tie.close (tie.spec returns put-part-requires same-length returns-2)

@@ -18,8 +18,13 @@ same-length : tie.Need-same-length
 same-length c = search needs
 
 returns : tie.Need-returns
-returns c = let room = c .before .before .before .before .before .before .before .before .before .before .before .before .before .before .pre .0 in
-    put-then (put-then (c .before .before .before .before .before .before .before .before .before .before .put-word .ensures) (c .before .before .before .before .before .before .put-byte .ensures) (omega (arith, room))) (c .before .before .put-number .ensures) room
+returns c =
+    let at-put-number = c .before .before in
+    let at-put-byte = at-put-number .before .before .before .before in
+    let at-put-word = at-put-byte .before .before .before .before in
+    let start = at-put-word .before .before .before .before in
+    let room = start .pre .0 in
+    put-then (put-then (at-put-word .put-word .ensures) (at-put-byte .put-byte .ensures) (omega (arith, room))) (at-put-number .put-number .ensures) room
 
 pub put-bit-spec : {M : Type 1} → statement M
 put-bit-spec =

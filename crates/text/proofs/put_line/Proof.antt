@@ -29,10 +29,17 @@ same-length c = search needs
 
 returns : tie.Need-returns
 unfolding lineText
-returns c = let room = c .before .before .before .before .before .before .before .before .before .before .before .before .before .before .before .before .before .before .before .before .before .pre .0 in
-    let turn = rw (c .before .before .before .before .before .before .before .group-byte .ensures) at (c .before .before .before .before .before .before .put-turn .ensures) in
-    let a = put-then (c .before .before .before .before .before .before .before .before .before .before .before .before .before .before .before .put-steps .ensures) (c .before .before .before .before .before .before .before .before .before .before .before .put-bits .ensures) (omega (arith, room)) in
-    put-then (put-then a turn (omega (arith, room))) (c .before .before .put-byte .ensures) (omega (arith, room))
+returns c =
+    let at-put-byte = c .before .before in
+    let at-put-turn = at-put-byte .before .before .before .before in
+    let at-group-byte = at-put-turn .before in
+    let at-put-bits = at-group-byte .before .before .before .before in
+    let at-put-steps = at-put-bits .before .before .before .before in
+    let start = at-put-steps .before .before .before .before .before .before in
+    let room = start .pre .0 in
+    let turn = rw (at-group-byte .group-byte .ensures) at (at-put-turn .put-turn .ensures) in
+    let a = put-then (at-put-steps .put-steps .ensures) (at-put-bits .put-bits .ensures) (omega (arith, room)) in
+    put-then (put-then a turn (omega (arith, room))) (at-put-byte .put-byte .ensures) (omega (arith, room))
 
 pub put-line-spec : {M : Type 1} → statement M
 put-line-spec =

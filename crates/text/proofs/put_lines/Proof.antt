@@ -34,7 +34,10 @@ slice-aggregate-put-line : tie.Need-slice-aggregate-put-line Inv-loop μ-loop
 slice-aggregate-put-line c = search needs
 
 put-line-requires : tie.Need-put-line-requires Inv-loop μ-loop
-put-line-requires c κs = let i = c .before .before .loop .inv in (omega (arith, i .3, c .before .before .before .before .before .before .before .pre), c .before .before .before .before .before .before .before .pre .0, omega arith)
+put-line-requires c κs =
+    let at-loop = c .before .before in
+    let start = at-loop .before .before .before .before .before in
+    let i = at-loop .loop .inv in (omega (arith, i .3, start .pre), start .pre .0, omega arith)
 
 sub-if1 : tie.Need-sub-if1 Inv-loop μ-loop
 sub-if1 c = let b = c .before .before .before .before .loop .inv .1 in omega (arith, b .room)
@@ -68,15 +71,20 @@ loop-less : tie.Need-loop-less Inv-loop μ-loop
 loop-less c = search needs
 
 loop-again : tie.Need-loop-again Inv-loop μ-loop
-loop-again c = let a = c .before .before .before .before .before .before .before .before .before .before .before .before .before .before .before .args in
-    let o = c .before .before .before .before .before .before .before .before .before .before .loop in
+loop-again c =
+    let at-put-part = c .before .before in
+    let at-put-line = at-put-part .before .before .before .before .before in
+    let at-loop = at-put-line .before .before .before in
+    let start = at-loop .before .before .before .before .before in
+    let a = start .args in
+    let o = at-loop .loop in
     let b = o .inv .1 in
-    let p = c .before .before .before .before .before .before .before .put-line .ensures in
+    let p = at-put-line .put-line .ensures in
     let lines = linesOf (a .labels .now) (a .names .now) (a .run .now) (a .n) in
-    let n : c .before .before .before .before .before .before .before .put-line .result ≡ length (lines (o .count)) = omega (arith, p .behind) in
-    let e = c .before .before .put-part .ensures .holds ∙ ap (write (o .out) (o .bytes)) (put-front p) in
+    let n : at-put-line .put-line .result ≡ length (lines (o .count)) = omega (arith, p .behind) in
+    let e = at-put-part .put-part .ensures .holds ∙ ap (write (o .out) (o .bytes)) (put-front p) in
     let next = begun-next lines (a .out .now) (o .count) (o .bytes) (o .out) _ b (omega (arith, b .room)) e in
-    (omega arith, rw n next, begun-length lines (a .out .now) next, put-length p (omega (arith, o .inv .3, c .before .before .before .before .before .before .before .before .before .before .before .before .before .before .before .pre)) ∙ o .inv .3)
+    (omega arith, rw n next, begun-length lines (a .out .now) next, put-length p (omega (arith, o .inv .3, start .pre)) ∙ o .inv .3)
 
 same-length-2 : tie.Need-same-length-2 Inv-loop μ-loop
 same-length-2 c = search needs

@@ -32,10 +32,15 @@ same-length : tie.Need-same-length Inv-loop μ-loop
 same-length c = search needs
 
 returns : tie.Need-returns Inv-loop μ-loop
-returns c = let a = c .before .before .before .before .before .before .args in
-    let o = c .before .before .before .loop in
-    spelt-ends (a .names .now) (a .k) (a .out .now) (a .at) (c .before .before .before .before .before .before .pre .0) (o .i) (c .before .byte-at .result) (o .out) (c .before .before .loop-test .taken)
-    (o .inv .1) (c .before .byte-at .ensures) (c .if1 .taken)
+returns c =
+    let at-byte-at = c .before in
+    let at-loop-test = at-byte-at .before in
+    let at-loop = at-loop-test .before in
+    let start = at-loop .before .before .before in
+    let a = start .args in
+    let o = at-loop .loop in
+    spelt-ends (a .names .now) (a .k) (a .out .now) (a .at) (start .pre .0) (o .i) (at-byte-at .byte-at .result) (o .out) (at-loop-test .loop-test .taken)
+    (o .inv .1) (at-byte-at .byte-at .ensures) (c .if1 .taken)
 
 add-out : tie.Need-add-out Inv-loop μ-loop
 add-out c = search needs
@@ -50,11 +55,16 @@ loop-less : tie.Need-loop-less Inv-loop μ-loop
 loop-less c = search needs
 
 loop-again : tie.Need-loop-again Inv-loop μ-loop
-loop-again c = let a = c .before .before .before .before .before .before .args in
-    let o = c .before .before .before .loop in (
+loop-again c =
+    let at-byte-at = c .before in
+    let at-loop-test = at-byte-at .before in
+    let at-loop = at-loop-test .before in
+    let start = at-loop .before .before .before in
+    let a = start .args in
+    let o = at-loop .loop in (
       omega arith,
-      spelt-next (a .names .now) (a .k) (a .out .now) (a .at) (c .before .before .before .before .before .before .pre .0) (o .i) (c .before .byte-at .result) (o .out) (c .before .before .loop-test .taken)
-          (o .inv .1) (c .before .byte-at .ensures) (c .if1 .left),
+      spelt-next (a .names .now) (a .k) (a .out .now) (a .at) (start .pre .0) (o .i) (at-byte-at .byte-at .result) (o .out) (at-loop-test .loop-test .taken)
+          (o .inv .1) (at-byte-at .byte-at .ensures) (c .if1 .left),
     )
 
 add-result-2 : tie.Need-add-result-2 Inv-loop μ-loop

@@ -18,24 +18,43 @@ slice-aggregate-put-part : tie.Need-slice-aggregate-put-part
 slice-aggregate-put-part c = search needs
 
 put-part-requires : tie.Need-put-part-requires
-put-part-requires c κs = let l = c .before .before .before .before .before .before .before .args .line .now in omega (arith, remark-long l (sym (c .before .before .before .follows .ensures) ∙ c .before .before .if1 .taken), c .before .before .before .before .before .before .before .pre)
+put-part-requires c κs =
+    let at-if1 = c .before .before in
+    let at-follows = at-if1 .before in
+    let start = at-follows .before .before .before .before in
+    let l = start .args .line .now in omega (arith, remark-long l (sym (at-follows .follows .ensures) ∙ at-if1 .if1 .taken), start .pre)
 
 put-part-requires-2 : tie.Need-put-part-requires-2
-put-part-requires-2 c κs = let l = c .before .before .before .before .before .before .before .before .before .before .before .args .line .now in omega (arith, remark-long l (sym (c .before .before .before .before .before .before .before .follows .ensures) ∙ c .before .before .before .before .before .before .if1 .taken), c .before .before .before .before .before .before .before .before .before .before .before .pre)
+put-part-requires-2 c κs =
+    let at-if1 = c .before .before .before .before .before .before in
+    let at-follows = at-if1 .before in
+    let start = at-follows .before .before .before .before in
+    let l = start .args .line .now in omega (arith, remark-long l (sym (at-follows .follows .ensures) ∙ at-if1 .if1 .taken), start .pre)
 
 put-byte-requires : tie.Need-put-byte-requires
-put-byte-requires c κs = let l = c .before .before .before .before .before .before .before .before .before .before .before .before .before .before .before .args .line .now in omega (arith, remark-long l (sym (c .before .before .before .before .before .before .before .before .before .before .before .follows .ensures) ∙ c .before .before .before .before .before .before .before .before .before .before .if1 .taken), c .before .before .before .before .before .before .before .before .before .before .before .before .before .before .before .pre)
+put-byte-requires c κs =
+    let at-if1 = c .before .before .before .before .before .before .before .before .before .before in
+    let at-follows = at-if1 .before in
+    let start = at-follows .before .before .before .before in
+    let l = start .args .line .now in omega (arith, remark-long l (sym (at-follows .follows .ensures) ∙ at-if1 .if1 .taken), start .pre)
 
 same-length : tie.Need-same-length
 same-length c = search needs
 
 returns : tie.Need-returns
-returns c = let l = c .before .before .before .before .before .before .before .before .before .before .before .before .before .before .before .before .before .before .args .line .now in
-    let t = sym (c .before .before .before .before .before .before .before .before .before .before .before .before .before .before .follows .ensures) ∙ c .before .before .before .before .before .before .before .before .before .before .before .before .before .if1 .taken in
+returns c =
+    let at-put-byte = c .before .before in
+    let at-put-part2 = at-put-byte .before .before .before .before in
+    let at-put-part = at-put-part2 .before .before .before .before in
+    let at-if1 = at-put-part .before .before .before in
+    let at-follows = at-if1 .before in
+    let start = at-follows .before .before .before .before in
+    let l = start .args .line .now in
+    let t = sym (at-follows .follows .ensures) ∙ at-if1 .if1 .taken in
     let n = remark-long l t in
-    let room = c .before .before .before .before .before .before .before .before .before .before .before .before .before .before .before .before .before .before .pre in
-    let a = put-then (c .before .before .before .before .before .before .before .before .before .before .put-part .ensures) (c .before .before .before .before .before .before .put-part2 .ensures) (omega (arith, room)) in
-    let p = put-then a (c .before .before .put-byte .ensures) (omega (arith, room)) in
+    let room = start .pre in
+    let a = put-then (at-put-part .put-part .ensures) (at-put-part2 .put-part2 .ensures) (omega (arith, room)) in
+    let p = put-then a (at-put-byte .put-byte .ensures) (omega (arith, room)) in
     rw (remark-is l t) (put-most p (omega (arith, p .short)))
 
 returns-2 : tie.Need-returns-2

@@ -42,32 +42,58 @@ same-length : tie.Need-same-length Inv-loop μ-loop
 same-length c = search needs
 
 returns : tie.Need-returns Inv-loop μ-loop
-returns c = let a = c .before .before .before .before .before .before .before .before .args in
+returns c =
+    let at-is-lemmas = c .before in
+    let at-end-of = at-is-lemmas .before .before in
+    let at-loop-test = at-end-of .before in
+    let at-loop = at-loop-test .before in
+    let start = at-loop .before .before .before in
+    let a = start .args in
     let t = a .text .now in
-    let o = c .before .before .before .before .before .loop in
-    let e = left-lemmas t (o .at) (c .before .before .before .end-of .result) (c .before .before .before .before .loop-test .taken) (c .before .before .before .end-of .ensures) (sym (c .before .is-lemmas .ensures) ∙ c .if1 .taken) in
+    let o = at-loop .loop in
+    let e = left-lemmas t (o .at) (at-end-of .end-of .result) (at-loop-test .loop-test .taken) (at-end-of .end-of .ensures) (sym (at-is-lemmas .is-lemmas .ensures) ∙ c .if1 .taken) in
     done (rest t (a .from)) (rest t (o .at)) (o .out) (a .out .now) (o .end) e (o .inv .0) (o .inv .1)
 
 put-remark-requires : tie.Need-put-remark-requires Inv-loop μ-loop
-put-remark-requires c κs = let t = c .before .before .before .before .before .before .before .before .before .args .text .now in
-    let o = c .before .before .before .before .before .before .loop in
+put-remark-requires c κs =
+    let at-if1 = c .before in
+    let at-is-lemmas = at-if1 .before in
+    let at-end-of = at-is-lemmas .before .before in
+    let at-loop-test = at-end-of .before in
+    let at-loop = at-loop-test .before in
+    let start = at-loop .before .before .before in
+    let t = start .args .text .now in
+    let o = at-loop .loop in
     let i = o .inv in
-    line-within t (o .at) (c .before .before .before .before .end-of .result) (c .before .before .before .before .before .loop-test .taken) (c .before .before .before .before .end-of .ensures) (length (o .out)) (o .end)
-    (sym (c .before .before .is-lemmas .ensures) ∙ c .before .if1 .left) (omega (arith, i .0, i .2, c .before .before .before .before .before .before .before .before .before .pre))
+    line-within t (o .at) (at-end-of .end-of .result) (at-loop-test .loop-test .taken) (at-end-of .end-of .ensures) (length (o .out)) (o .end)
+    (sym (at-is-lemmas .is-lemmas .ensures) ∙ at-if1 .if1 .left) (omega (arith, i .0, i .2, start .pre))
 
 add-at : tie.Need-add-at Inv-loop μ-loop
-add-at c = let t = c .before .before .before .before .before .before .before .before .before .before .before .before .args .text .now in
-    omega (arith, line-ends t (c .before .before .before .before .before .before .before .before .before .loop .at) (c .before .before .before .before .before .before .before .end-of .result) (c .before .before .before .before .before .before .before .before .loop-test .taken) (c .before .before .before .before .before .before .before .end-of .ensures))
+add-at c =
+    let at-end-of = c .before .before .before .before .before .before .before in
+    let at-loop-test = at-end-of .before in
+    let at-loop = at-loop-test .before in
+    let start = at-loop .before .before .before in
+    let t = start .args .text .now in
+    omega (arith, line-ends t (at-loop .loop .at) (at-end-of .end-of .result) (at-loop-test .loop-test .taken) (at-end-of .end-of .ensures))
 
 loop-less : tie.Need-loop-less Inv-loop μ-loop
 loop-less c = omega (arith, c .before .before .before .before .before .before .before .end-of .ensures)
 
 loop-again : tie.Need-loop-again Inv-loop μ-loop
-loop-again c = let t = c .before .before .before .before .before .before .before .before .before .before .before .before .args .text .now in
-    let o = c .before .before .before .before .before .before .before .before .before .loop in
+loop-again c =
+    let at-put-remark = c .before .before in
+    let at-if1 = at-put-remark .before .before in
+    let at-is-lemmas = at-if1 .before in
+    let at-end-of = at-is-lemmas .before .before in
+    let at-loop-test = at-end-of .before in
+    let at-loop = at-loop-test .before in
+    let start = at-loop .before .before .before in
+    let t = start .args .text .now in
+    let o = at-loop .loop in
     let i = o .inv in
-    let w = write-next t (o .at) (c .before .before .before .before .before .before .before .end-of .result) (c .before .before .before .before .before .before .before .before .loop-test .taken) (c .before .before .before .before .before .before .before .end-of .ensures) (sym (c .before .before .before .before .before .is-lemmas .ensures) ∙ c .before .before .before .before .if1 .left)
-    (c .before .before .put-remark .ensures) (omega (arith, i .0, i .2, c .before .before .before .before .before .before .before .before .before .before .before .before .pre)) in
+    let w = write-next t (o .at) (at-end-of .end-of .result) (at-loop-test .loop-test .taken) (at-end-of .end-of .ensures) (sym (at-is-lemmas .is-lemmas .ensures) ∙ at-if1 .if1 .left)
+    (at-put-remark .put-remark .ensures) (omega (arith, i .0, i .2, start .pre)) in
     (w .0 ∙ i .0, w .1 ∙ i .1, w .2 ∙ i .2)
 
 same-length-2 : tie.Need-same-length-2 Inv-loop μ-loop

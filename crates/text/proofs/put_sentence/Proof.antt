@@ -26,13 +26,20 @@ same-length c = search needs
 
 returns : tie.Need-returns
 unfolding sentence
-returns c = let p = c .before .before .before .before .before .before .before .before .before .before .before .before .before .before .before .before .before .before .before .before .before .before .before .pre in
+returns c =
+    let at-put-byte = c .before .before in
+    let at-put-number2 = at-put-byte .before .before .before .before in
+    let at-put-part2 = at-put-number2 .before .before .before .before in
+    let at-put-number = at-put-part2 .before .before .before .before in
+    let at-put-part = at-put-number .before .before .before .before in
+    let start = at-put-part .before .before .before .before .before in
+    let p = start .pre in
     let room = p .2 in
-    let a = put-most {k = 8} (c .before .before .before .before .before .before .before .before .before .before .before .before .before .before .before .before .before .before .put-part .ensures) (p .0) in
-    let b = put-then a (c .before .before .before .before .before .before .before .before .before .before .before .before .before .before .put-number .ensures) (omega (arith, room)) in
-    let d = put-then b (put-most {k = 8} (c .before .before .before .before .before .before .before .before .before .before .put-part2 .ensures) (p .1)) (omega (arith, room)) in
-    let e = put-then d (c .before .before .before .before .before .before .put-number2 .ensures) (omega (arith, room)) in
-    put-then e (c .before .before .put-byte .ensures) room
+    let a = put-most {k = 8} (at-put-part .put-part .ensures) (p .0) in
+    let b = put-then a (at-put-number .put-number .ensures) (omega (arith, room)) in
+    let d = put-then b (put-most {k = 8} (at-put-part2 .put-part2 .ensures) (p .1)) (omega (arith, room)) in
+    let e = put-then d (at-put-number2 .put-number2 .ensures) (omega (arith, room)) in
+    put-then e (at-put-byte .put-byte .ensures) room
 
 pub put-sentence-spec : {M : Type 1} → statement M
 put-sentence-spec =

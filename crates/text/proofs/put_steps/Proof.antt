@@ -20,8 +20,13 @@ same-length c = search needs
 
 returns : tie.Need-returns
 unfolding stepsText
-returns c = let room = c .before .before .before .before .before .before .before .before .before .before .before .before .before .before .before .pre .0 in
-    put-then (put-then (c .before .before .before .before .before .before .before .before .before .before .put-number .ensures) (c .before .before .before .before .before .before .put-step .ensures) (omega (arith, room))) (c .before .before .put-step2 .ensures) room
+returns c =
+    let at-put-step2 = c .before .before in
+    let at-put-step = at-put-step2 .before .before .before .before in
+    let at-put-number = at-put-step .before .before .before .before in
+    let start = at-put-number .before .before .before .before .before in
+    let room = start .pre .0 in
+    put-then (put-then (at-put-number .put-number .ensures) (at-put-step .put-step .ensures) (omega (arith, room))) (at-put-step2 .put-step2 .ensures) room
 
 pub put-steps-spec : {M : Type 1} → statement M
 put-steps-spec =

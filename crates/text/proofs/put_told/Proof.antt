@@ -46,7 +46,11 @@ sub-out : tie.Need-sub-out
 sub-out c = omega (arith, length-told (c .before .before .before .before .before .before .before .args .x), c .before .before .before .before .before .before .before .pre .0)
 
 slice-write-out : tie.Need-slice-write-out
-slice-write-out c = omega (arith, length-told (c .before .before .before .before .before .before .before .args .x), c .before .before .before .before .before .before .before .pre, longer (c .before .before .before))
+slice-write-out c =
+    let at-before = c .before .before in
+    let at3 = at-before .before in
+    let start = at3 .before .before .before .before in
+    omega (arith, length-told (start .args .x), start .pre, longer (at3))
 
 same-length : tie.Need-same-length
 same-length c = search needs
@@ -61,10 +65,18 @@ sub-out-2 : tie.Need-sub-out-2
 sub-out-2 c = omega (arith, length-told (c .before .before .before .before .before .before .before .args .x), c .before .before .before .before .before .before .before .pre .0)
 
 slice-write-out-2 : tie.Need-slice-write-out-2
-slice-write-out-2 c = omega (arith, length-told (c .before .before .before .before .before .before .before .args .x), c .before .before .before .before .before .before .before .pre, longer (c .before .before .before))
+slice-write-out-2 c =
+    let at-before = c .before .before in
+    let at3 = at-before .before in
+    let start = at3 .before .before .before .before in
+    omega (arith, length-told (start .args .x), start .pre, longer (at3))
 
 slice-write-out-3 : tie.Need-slice-write-out-3
-slice-write-out-3 c = rw length-set (omega (arith, length-told (c .before .before .before .before .before .before .before .before .args .x), c .before .before .before .before .before .before .before .before .pre, longer (c .before .before .before .before)))
+slice-write-out-3 c =
+    let at-before = c .before .before .before in
+    let at4 = at-before .before in
+    let start = at4 .before .before .before .before in
+    rw length-set (omega (arith, length-told (start .args .x), start .pre, longer (at4)))
 
 same-length-2 : tie.Need-same-length-2
 same-length-2 c = search needs

@@ -31,11 +31,19 @@ same-length-2 c = search needs
 
 returns-2 : tie.Need-returns-2
 unfolding turnText
-returns-2 c = rw (ne-eqb (c .before .before .before .before .before .before .before .before .args .b) 1 (c .before .before .before .before .before .before .if1 .left), eq-eqb (c .before .before .before .before .before .before .before .before .args .b) 2 (c .before .before .before .before .before .if2 .taken)) (c .before .before .put-part2 .ensures)
+returns-2 c =
+    let at-put-part2 = c .before .before in
+    let at-if2 = at-put-part2 .before .before .before in
+    let at-if1 = at-if2 .before in
+    let start = at-if1 .before .before in
+    rw (ne-eqb (start .args .b) 1 (at-if1 .if1 .left), eq-eqb (start .args .b) 2 (at-if2 .if2 .taken)) (at-put-part2 .put-part2 .ensures)
 
 returns-3 : tie.Need-returns-3
 unfolding turnText
-returns-3 c = rw (ne-eqb (c .before .before .before .args .b) 1 (c .before .if1 .left), ne-eqb (c .before .before .before .args .b) 2 (c .if2 .left)) (put-most (put-none (c .before .before .before .args .out .now) (c .before .before .before .args .at)) (omega arith))
+returns-3 c =
+    let at-if1 = c .before in
+    let start = at-if1 .before .before in
+    rw (ne-eqb (start .args .b) 1 (at-if1 .if1 .left), ne-eqb (start .args .b) 2 (c .if2 .left)) (put-most (put-none (start .args .out .now) (start .args .at)) (omega arith))
 
 pub put-turn-spec : {M : Type 1} → statement M
 put-turn-spec =

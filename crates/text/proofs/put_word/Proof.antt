@@ -14,7 +14,11 @@ same-length : tie.Need-same-length
 same-length c = search needs
 
 returns : tie.Need-returns
-returns c = put-then (c .before .before .before .before .before .before .put-byte .ensures) (c .before .before .put-name .ensures) (c .before .before .before .before .before .before .before .before .before .before .pre .0)
+returns c =
+    let at-put-name = c .before .before in
+    let at-put-byte = at-put-name .before .before .before .before in
+    let start = at-put-byte .before .before .before .before in
+    put-then (at-put-byte .put-byte .ensures) (at-put-name .put-name .ensures) (start .pre .0)
 
 pub put-word-spec : {M : Type 1} → statement M
 put-word-spec = tie.close (tie.spec put-byte-requires put-name-requires same-length returns)

@@ -36,32 +36,59 @@ is-lemmas-requires : tie.Need-is-lemmas-requires Inv-loop μ-loop
 is-lemmas-requires c κs = search needs
 
 returns : tie.Need-returns Inv-loop μ-loop
-returns c = let t = c .before .before .before .before .before .before .before .args .text .now in
-    let o = c .before .before .before .before .before .loop in
-    let e = left-lemmas t (o .at) (c .before .before .before .end-of .result) (c .before .before .before .before .loop-test .taken) (c .before .before .before .end-of .ensures) (sym (c .before .is-lemmas .ensures) ∙ c .if1 .taken) in
+returns c =
+    let at-is-lemmas = c .before in
+    let at-end-of = at-is-lemmas .before .before in
+    let at-loop-test = at-end-of .before in
+    let at-loop = at-loop-test .before in
+    let start = at-loop .before .before in
+    let t = start .args .text .now in
+    let o = at-loop .loop in
+    let e = left-lemmas t (o .at) (at-end-of .end-of .result) (at-loop-test .loop-test .taken) (at-end-of .end-of .ensures) (sym (at-is-lemmas .is-lemmas .ensures) ∙ c .if1 .taken) in
     (sym (le-leb 0 (o .left) (omega arith)) ∙ ap (λ s. leb (length s) (o .left)) (sym e)) ∙ o .inv
 
 remark-length-requires : tie.Need-remark-length-requires Inv-loop μ-loop
 remark-length-requires c κs = search needs
 
 returns-2 : tie.Need-returns-2 Inv-loop μ-loop
-returns-2 c = let t = c .before .before .before .before .before .before .before .before .before .args .text .now in
-    let o = c .before .before .before .before .before .before .before .loop in
-    fit-not t (o .at) (c .before .before .before .before .before .end-of .result) (c .before .before .before .before .before .before .loop-test .taken) (c .before .before .before .before .before .end-of .ensures) (o .left) (sym (c .before .before .before .is-lemmas .ensures) ∙ c .before .before .if1 .left)
-    (omega (arith, c .before .remark-length .ensures)) ∙ o .inv
+returns-2 c =
+    let at-remark-length = c .before in
+    let at-if1 = at-remark-length .before in
+    let at-is-lemmas = at-if1 .before in
+    let at-end-of = at-is-lemmas .before .before in
+    let at-loop-test = at-end-of .before in
+    let at-loop = at-loop-test .before in
+    let start = at-loop .before .before in
+    let t = start .args .text .now in
+    let o = at-loop .loop in
+    fit-not t (o .at) (at-end-of .end-of .result) (at-loop-test .loop-test .taken) (at-end-of .end-of .ensures) (o .left) (sym (at-is-lemmas .is-lemmas .ensures) ∙ at-if1 .if1 .left)
+    (omega (arith, at-remark-length .remark-length .ensures)) ∙ o .inv
 
 add-at : tie.Need-add-at Inv-loop μ-loop
-add-at c = let t = c .before .before .before .before .before .before .before .before .before .args .text .now in
-    omega (arith, line-ends t (c .before .before .before .before .before .before .before .loop .at) (c .before .before .before .before .before .end-of .result) (c .before .before .before .before .before .before .loop-test .taken) (c .before .before .before .before .before .end-of .ensures))
+add-at c =
+    let at-end-of = c .before .before .before .before .before in
+    let at-loop-test = at-end-of .before in
+    let at-loop = at-loop-test .before in
+    let start = at-loop .before .before in
+    let t = start .args .text .now in
+    omega (arith, line-ends t (at-loop .loop .at) (at-end-of .end-of .result) (at-loop-test .loop-test .taken) (at-end-of .end-of .ensures))
 
 loop-less : tie.Need-loop-less Inv-loop μ-loop
 loop-less c = omega (arith, c .before .before .before .before .before .end-of .ensures)
 
 loop-again : tie.Need-loop-again Inv-loop μ-loop
-loop-again c = let t = c .before .before .before .before .before .before .before .before .before .args .text .now in
-    let o = c .before .before .before .before .before .before .before .loop in
-    let n = c .before .remark-length .ensures in
-    rw n (fit-next t (o .at) (c .before .before .before .before .before .end-of .result) (c .before .before .before .before .before .before .loop-test .taken) (c .before .before .before .before .before .end-of .ensures) (o .left) (sym (c .before .before .before .is-lemmas .ensures) ∙ c .before .before .if1 .left)
+loop-again c =
+    let at-remark-length = c .before in
+    let at-if1 = at-remark-length .before in
+    let at-is-lemmas = at-if1 .before in
+    let at-end-of = at-is-lemmas .before .before in
+    let at-loop-test = at-end-of .before in
+    let at-loop = at-loop-test .before in
+    let start = at-loop .before .before in
+    let t = start .args .text .now in
+    let o = at-loop .loop in
+    let n = at-remark-length .remark-length .ensures in
+    rw n (fit-next t (o .at) (at-end-of .end-of .result) (at-loop-test .loop-test .taken) (at-end-of .end-of .ensures) (o .left) (sym (at-is-lemmas .is-lemmas .ensures) ∙ at-if1 .if1 .left)
     (omega arith) ∙ o .inv)
 
 returns-3 : tie.Need-returns-3 Inv-loop μ-loop

@@ -23,7 +23,12 @@ same-length : tie.Need-same-length
 same-length c = search needs
 
 returns-3 : tie.Need-returns-3
-returns-3 c = rw (within-limits (c .before .before .before .before .before .before .before .before .before .before .before .before .before .args .t1) (c .before .before .before .before .before .before .before .before .before .before .if1 .left) (c .before .before .before .before .before .before .before .before .before .if2 .left)) (c .before .before .put-lines .ensures)
+returns-3 c =
+    let at-put-lines = c .before .before in
+    let at-if2 = at-put-lines .before .before .before .before .before .before .before in
+    let at-if1 = at-if2 .before in
+    let start = at-if1 .before .before .before in
+    rw (within-limits (start .args .t1) (at-if1 .if1 .left) (at-if2 .if2 .left)) (at-put-lines .put-lines .ensures)
 
 pub run-text-spec : {M : Type 1} → statement M
 run-text-spec = tie.close (tie.spec returns returns-2 put-lines-requires same-length returns-3)
