@@ -1,13 +1,13 @@
 -- Laws of digits written from the last to the first: what is left to write gives the whole numeral.
-use mathlib.Core.Path.{_≡_, refl, sym, ap, _∙_}
-use mathlib.Core.List.{List, [], _∷_, _++_}
-use Prim.Native.Nat.{ℕ, suc, _+_, _-_, _≤_, _<_, _/_, _%_}
+use mathlib.Core.Path.{_≡_, sym, ap, _∙_}
+use mathlib.Core.List.{List}
+use Prim.Native.Nat.{ℕ, _+_, _-_, _≤_, _<_, _/_, _%_}
 use native.Mathlib.Omega.{arith}
 use lib.ListN.{length, set}
 use Rattle.lists.specs.Writing.{write}
 use Rattle.lists.proofs.WritingLaws.{write-one, write-before}
 use Rattle.text.specs.Numerals.{digit, numeral}
-use Rattle.text.proofs.NumeralLaws.{numeral-small, numeral-more, length-small, length-more, length-some}
+use Rattle.text.proofs.NumeralLaws.{numeral-small, numeral-more, length-more, length-some}
 
 -- the last digit at place at, and then the others before it
 pub digit-next : (l : List ℕ) (at x : ℕ) → 10 ≤ x → length (numeral x) ≤ at + 1 → at < length l

@@ -1,6 +1,5 @@
 -- Document 01's own lines, and numbers at the ends of their range, evaluated by the checker.
 use mathlib.Core.Path.{_≡_, refl}
-use mathlib.Core.Bool.{true, false}
 use mathlib.Core.List.{List, [], _∷_, _++_}
 use Prim.Native.Nat.{ℕ}
 use lib.IntN.{ℤ, pos, negsuc}
@@ -8,7 +7,6 @@ use lib.ListN.{replicate}
 use Rattle.lists.specs.Rows.{each}
 use Rattle.lists.specs.Places.{passing, first}
 use Rattle.lists.specs.Tests.{every}
-use Rattle.job.specs.declared.Job.{Job}
 use Rattle.job.specs.OneBit.{oneBit}
 use Rattle.scan.specs.Bytes.{starts}
 use Rattle.scan.specs.Lines.{lines, push}
@@ -18,7 +16,7 @@ use Rattle.text.specs.Comments as Comments
 use Rattle.text.specs.Numerals.{digitsBelow, numeral}
 use Rattle.text.specs.Dimacs.{told, numberText}
 use Rattle.text.specs.Texts.{fitting, texted, withTexts}
-use Rattle.text.specs.Whole.{printed, withText}
+use Rattle.text.specs.Whole.{withText}
 use Rattle.text.specs.Lines.{sentence, header, refused}
 use Rattle.text.specs.RunText.{nameAt, turnText, stepsText, lineText, runLine, runLines}
 

@@ -1,8 +1,8 @@
 -- Laws of a table's names: their length, and a name written byte by byte until its first 0.
-use mathlib.Core.Path.{_≡_, refl, sym, ap, _∙_, subst}
+use mathlib.Core.Path.{_≡_, refl, sym, _∙_}
 use mathlib.Core.Bool.{Bool}
-use mathlib.Core.List.{List, [], _∷_, _++_}
-use Prim.Native.Nat.{ℕ, suc, _+_, _*_, _≤_, _<_}
+use mathlib.Core.List.{List}
+use Prim.Native.Nat.{ℕ, _+_, _*_, _≤_, _<_}
 use native.Mathlib.Omega.{arith}
 use native.Mathlib.Nat.{add-zero}
 use native.Mathlib.Numerals.{add-one}
@@ -11,7 +11,6 @@ use lib.Dec.{eqb}
 use lib.ListN.{length, set}
 use Rattle.lists.specs.Rows.{each, tab, num}
 use Rattle.lists.specs.Places.{first}
-use Rattle.lists.proofs.RowLaws.{length-tab}
 use Rattle.lists.proofs.PlaceLaws.{first-zero, first-most, first-none, first-found}
 use Rattle.text.specs.Put.{Put}
 use Rattle.text.specs.RunText.{nameAt}

@@ -8,7 +8,6 @@ use native.Mathlib.Numerals.{add-one}
 use lib.ListN.{length, length-append, set, take}
 use lib.Seq.{take-at}
 use Rattle.lists.specs.Rows.{each}
-use Rattle.lists.specs.Writing.{write}
 use Rattle.lists.proofs.WritingLaws.{length-write, write-none, write-one, write-more}
 use Rattle.text.specs.Put.{Put}
 

@@ -1,20 +1,22 @@
 -- Laws of texts one behind the other: the loop that writes them begins, goes on, and ends at the first that does not fit.
 use mathlib.Core.Path.{_≡_, refl, sym, ap, _∙_}
 use mathlib.Core.Bool.{Bool, true, false}
-use mathlib.Core.List.{List, [], _∷_, _++_}
-use Prim.Native.Nat.{ℕ, suc, _+_, _≤_, _<_}
+use mathlib.Core.Logic.{_⊎_, inl, inr}
+use mathlib.Core.List.{List, [], _∷_}
+use Prim.Native.Nat.{ℕ, zero, suc, _+_, _≤_, _<_}
+use native.Mathlib.Decide.{ℕ-discrete}
 use native.Mathlib.Omega.{arith}
-use native.Mathlib.Nat.{zero-add}
 use native.Mathlib.Numerals.{add-one}
-use borrow.Author.Tests.{le-leb, lt-leb}
+use borrow.Author.Tests.{leb-true, le-leb, lt-leb}
 use lib.Dec.{leb}
 use lib.ListN.{length, length-append}
 use Rattle.lists.specs.Rows.{each, tab}
 use Rattle.lists.specs.Places.{passing}
 use Rattle.lists.specs.Writing.{write}
-use Rattle.lists.proofs.PlaceLaws.{row-next, row-found}
+use Rattle.lists.proofs.Logic.{split}
+use Rattle.lists.proofs.RowLaws.{length-tab}
+use Rattle.lists.proofs.PlaceLaws.{passing-stop, row-most, row-next, row-found}
 use Rattle.lists.proofs.WritingLaws.{length-write, write-none, write-more}
-use Rattle.text.specs.declared.Texted.{Texted}
 use Rattle.text.specs.Texts.{fitting, texted, withTexts}
 
 module _ (text : ℕ → List ℕ) (old : List ℕ) where
@@ -74,3 +76,29 @@ module _ (text : ℕ → List ℕ) (old : List ℕ) where
 pub texts-none : (n : ℕ) (text : ℕ → List ℕ) (old : List ℕ) → n ≡ 0
     → (record { count = 0; bytes = 0 } ≡ texted n text old) × (old ≡ withTexts n text old)
 texts-none n text old e = begun-all text old n 0 0 old (begun-none text old) (sym e)
+
+-- what is written lies in the buffer
+module _ (text : ℕ → List ℕ) (old : List ℕ) where
+  within : (n : ℕ) → length (each (passing (tab n (fits text old))) text) ≤ length old
+  unfolding each passing
+  within zero = omega arith
+  within (suc n) = go (ℕ-discrete (passing (tab n (fits text old))) n) (split (fits text old n)) (within n)
+    where
+      go : Dec (passing (tab n (fits text old)) ≡ n) → (fits text old n ≡ true) ⊎ (fits text old n ≡ false)
+          → length (each (passing (tab n (fits text old))) text) ≤ length old
+          → length (each (passing (tab (suc n) (fits text old))) text) ≤ length old
+      go (yes e) (inl t) i =
+          let k : passing (tab (suc n) (fits text old)) ≡ suc n = ap (λ m. passing (tab m (fits text old))) (sym (add-one n)) ∙ row-next (fits text old) n e t ∙ add-one n in
+          rw k (leb-true (length (each (suc n) text)) (length old) t)
+      go (yes e) (inr t) i =
+          let k : passing (tab (suc n) (fits text old)) ≡ n = row-found (fits text old) n (suc n) e t (omega arith) in
+          rw k (rw e at i)
+      go (no e) t i =
+          let l = row-most (fits text old) n in
+          let k : passing (tab (suc n) (fits text old)) ≡ passing (tab n (fits text old)) =
+          passing-stop (tab n (fits text old)) (fits text old n ∷ []) (rw (length-tab n (fits text old)) (omega arith)) in
+          rw k i
+
+  pub texted-within : (n : ℕ) → texted n text old .bytes ≤ length old
+  unfolding texted fitting
+  texted-within n = within n

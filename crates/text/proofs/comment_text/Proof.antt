@@ -1,10 +1,7 @@
 -- The lines after the first are asked whether their comments fit, and then they are put.
-use mathlib.Core.Path.{_∙_, sym, ap}
-use mathlib.Core.List.{List}
-use Prim.Native.Nat.{ℕ}
+use mathlib.Core.Path.{_∙_, sym}
 use native.Mathlib.Omega.{arith}
 use borrow.Author.Tests.{leb-true, leb-false}
-use lib.ListN.{length}
 use Rattle.text.proofs.CommentLaws.{left-first, first-ends}
 use Rattle.text.proofs.WholeLaws.{too-long, given-whole}
 use borrow.Author.Needs.{needs}

@@ -1,6 +1,6 @@
 -- At 64 bits the opposite of every number of 32 bits fits, so the size is the number or its opposite.
 use mathlib.Core.Path.{_≡_, ap, _∙_, subst}
-use mathlib.Core.Bool.{true, false}
+use mathlib.Core.Bool.{true}
 use native.Mathlib.Omega.{arith}
 use lib.IntN.{ℤ, pos, natAbs, _-ℤ_}
 use lib.Signed.{ltZ}

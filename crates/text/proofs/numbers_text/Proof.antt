@@ -1,6 +1,6 @@
 -- The texts of the first numbers stand in the buffer; the next one goes behind them, or does not fit.
-use mathlib.Core.Path.{_≡_, ap, _∙_, sym}
-use Prim.Native.Nat.{_+_, _-_, _≤_, _<_}
+use mathlib.Core.Path.{_≡_, ap, _∙_}
+use Prim.Native.Nat.{_-_, _≤_}
 use native.Mathlib.Omega.{arith}
 use lib.IntN.{ℤ, pos}
 use lib.ListN.{length, getD}

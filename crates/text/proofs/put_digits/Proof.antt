@@ -1,6 +1,6 @@
 -- What is left to write before each digit gives the whole numeral.
 use Prim.Native.Nat.{_+_, _-_, _≤_, _<_, _/_}
-use mathlib.Core.Path.{_≡_, _∙_, sym}
+use mathlib.Core.Path.{_≡_, _∙_}
 use native.Mathlib.Omega.{arith}
 use lib.ListN.{length, length-set}
 use Rattle.lists.specs.Writing.{write}

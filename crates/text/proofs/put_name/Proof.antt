@@ -1,6 +1,5 @@
 -- The bytes before place i stand in the buffer, and none of them ends the name.
 use Prim.Native.Nat.{_≤_, _-_}
-use mathlib.Core.Path.{_∙_}
 use native.Mathlib.Omega.{arith}
 use Rattle.text.proofs.NameLaws.{Spelt, spelt-none, spelt-next, spelt-ends, spelt-full}
 use borrow.Author.Needs.{needs}

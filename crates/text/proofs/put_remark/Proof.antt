@@ -1,6 +1,5 @@
 -- The two bytes, the line and its line feed, one behind the other, or nothing.
-use mathlib.Core.Path.{_≡_, _∙_, sym}
-use mathlib.Core.Bool.{true, false}
+use mathlib.Core.Path.{_∙_, sym}
 use native.Mathlib.Omega.{arith}
 use Rattle.text.proofs.CommentLaws.{remark-is, remark-not, remark-long}
 use Rattle.text.proofs.PutLaws.{put-none, put-then, put-most}

@@ -1,11 +1,9 @@
 -- The comments that are left, written behind those before, give them all.
-use Prim.Native.Nat.{_+_, _-_, _≤_, _<_}
-use mathlib.Core.Path.{_≡_, refl, sym, ap, _∙_}
-use mathlib.Core.Bool.{true, false}
+use Prim.Native.Nat.{_+_, _-_}
+use mathlib.Core.Path.{_≡_, refl, sym, _∙_}
 use native.Mathlib.Omega.{arith}
 use lib.ListN.{length}
 use Rattle.lists.specs.Writing.{write}
-use Rattle.lists.proofs.WritingLaws.{write-none}
 use Rattle.text.proofs.CommentLaws.{left as rest, left-none, left-lemmas, line-ends, line-within, write-next, done}
 use borrow.Author.Needs.{needs}
 use Rattle.text.proofs.put_remarks.Statement.{statement}

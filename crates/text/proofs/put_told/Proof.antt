@@ -1,14 +1,12 @@
 -- The digits end one place before the end; the byte behind them and the sign are set beside them.
 use mathlib.Core.Path.{_≡_, ap, _∙_, sym}
 use mathlib.Core.Bool.{true, false}
-use Prim.Native.Nat.{ℕ, _-_, _≤_}
+use Prim.Native.Nat.{ℕ, _-_}
 use native.Mathlib.Omega.{arith}
 use lib.IntN.{natAbs}
 use lib.ListN.{length, length-set}
 use Rattle.lists.specs.Writing.{write}
 use Rattle.text.specs.Numerals.{numeral}
-use Rattle.text.specs.Dimacs.{told}
-use Rattle.text.proofs.NumeralLaws.{length-some}
 use Rattle.text.proofs.SignLaws.{back, tested}
 use Rattle.text.proofs.ToldLaws.{length-told, zero-not-less, digits-length, put-zero, put-more, put-less}
 use borrow.Author.Needs.{needs}
