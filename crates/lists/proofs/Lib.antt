@@ -3,3 +3,4 @@ pub mod Logic
 pub mod RowLaws
 pub mod TestLaws
 pub mod PlaceLaws
+pub mod WritingLaws

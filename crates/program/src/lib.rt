@@ -162,7 +162,7 @@ fn add_step(d: Draft, s: &[u8], p: Step, n: usize) -> Draft
     entered(d, s, p, n)
 }
 
-fn is_lemmas(s: &[u8]) -> bool
+pub fn is_lemmas(s: &[u8]) -> bool
     ensures { λ r. ⌜ r ≡ isLemmas (now (s .entry)) ⌝ }
 {
     if s.len() == 6 {
