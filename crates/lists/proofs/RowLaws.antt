@@ -1,9 +1,12 @@
 -- Laws of rows: their length, and what stands at a place.
-use mathlib.Core.Path.{_≡_, refl, sym, ap, _∙_}
+use mathlib.Core.Path.{_≡_, refl, _∙_}
+use mathlib.Core.Bool.{cond}
 use mathlib.Core.List.{List, [], _∷_, _++_}
 use Prim.Native.Nat.{ℕ, zero, suc, _+_, _*_, _≤_, _<_}
 use native.Mathlib.Omega.{arith}
 use native.Mathlib.Decide.{ℕ-discrete}
+use borrow.Author.Tests.{eq-eqb, ne-eqb}
+use lib.Dec.{eqb}
 use lib.ListN.{length, getD, length-append, List·getD-append}
 use lib.Seq.{getD-at, getD-append-add}
 use Rattle.lists.specs.Rows.{each, tab, sum}
@@ -24,6 +27,26 @@ pub sum-const : (n k : ℕ) → sum n (λ i. k) ≡ n * k
 unfolding sum
 sum-const zero k = omega arith
 sum-const (suc n) k = let e = sum-const n k in omega arith
+
+pub sum-swap : (n k : ℕ) (f : ℕ → ℕ → ℕ) → sum n (λ i. sum k (f i)) ≡ sum k (λ j. sum n (λ i. f i j))
+unfolding sum
+sum-swap zero k f = let e = sum-const k 0 in omega arith
+sum-swap (suc n) k f = rw (sum-swap n k f) (sum-plus k (λ j. sum n (λ i. f i j)) (f n))
+
+-- the numbers below n that equal i: none, or one
+pub sum-miss : (n i : ℕ) → n ≤ i → sum n (λ x. cond (eqb i x) 1 0) ≡ 0
+unfolding sum
+sum-miss zero i l = refl
+sum-miss (suc n) i l = rw (sum-miss n i (omega arith), ne-eqb i n (λ e. omega arith)) refl
+
+pub sum-hit : (n i : ℕ) → i < n → sum n (λ x. cond (eqb i x) 1 0) ≡ 1
+unfolding sum
+sum-hit zero i l = absurd (omega arith)
+sum-hit (suc n) i l = go (ℕ-discrete i n) (sum-hit n i)
+  where
+    go : Dec (i ≡ n) → (i < n → sum n (λ x. cond (eqb i x) 1 0) ≡ 1) → sum n (λ x. cond (eqb i x) 1 0) + cond (eqb i n) 1 0 ≡ 1
+    go (yes e) f = rw (sum-miss n i (omega arith), eq-eqb i n e) refl
+    go (no e) f = rw (f (omega arith), ne-eqb i n e) refl
 
 -- ---- rows of parts
 

@@ -1,0 +1,3 @@
+-- The laws that the proofs of several needs cite.
+pub mod Signed
+pub mod StepLaws

@@ -1,0 +1,37 @@
+// Where the processes start: a step of each (99 and 98), and not both first steps critical (55).
+ghost use mathlib.Core.Path.{_≡_};
+ghost use mathlib.Core.Bool.{_&&_, not};
+ghost use Prim.Native.Nat.{_≤_};
+ghost use Rattle.job.specs.Limits.{maxSteps};
+ghost use Rattle.job.specs.Fitness.{firstOf, bothStart, bothCritical};
+use job::Program;
+
+fn first_of(p: Program, process: u8) -> usize
+    requires { ⌜ p .steps ≤ maxSteps ⌝ }
+    ensures { λ r. ⌜ r ≡ firstOf p process ⌝ }
+{
+    let m = p.steps;
+    let mut c: usize = 0;
+    while c < m {
+        if p.process[c] == process {
+            return c;
+        }
+        c += 1;
+    }
+    m
+}
+
+pub fn starts_fit(p: Program) -> bool
+    requires { ⌜ p .steps ≤ maxSteps ⌝ }
+    ensures { λ r. ⌜ r ≡ (bothStart p && not (bothCritical p)) ⌝ }
+{
+    let a = first_of(p, 1);
+    let b = first_of(p, 2);
+    if p.steps <= a {
+        return false;
+    }
+    if p.steps <= b {
+        return false;
+    }
+    !((p.kind[a] == 2) & (p.kind[b] == 2))
+}
