@@ -1,7 +1,7 @@
 // The families of clauses of a program. They are building blocks of the walk, no calls of document 01.
 pub mod line;
 pub mod steps;
-//pub mod turns;
+pub mod turns;
 //pub mod variables;
 
 // A turn, the items of its time and of the next one: the turn's number, the numbers that the items count from, and how many steps come first.
