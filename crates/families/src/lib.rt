@@ -2,7 +2,7 @@
 pub mod line;
 pub mod steps;
 pub mod turns;
-//pub mod variables;
+pub mod variables;
 
 // A turn, the items of its time and of the next one: the turn's number, the numbers that the items count from, and how many steps come first.
 pub struct Span {
