@@ -79,7 +79,7 @@ fn lemma_fits<'a>(
     length_fits(k < count, n) & places_fit(items, w, n, k)
 }
 
-pub fn lemmas_fit<'a>(
+pub(crate) fn lemmas_fit<'a>(
     lengths: &'a [u8; Job::LEMMAS],
     items: &'a [i16; Job::LEMMAS * Job::NAMES],
     count: usize,

@@ -2,7 +2,7 @@
 ghost use mathlib.Core.Path.{_≡_};
 ghost use Rattle.lists.specs.Tests.{within};
 
-pub fn in_range(lo: usize, hi: usize, x: usize) -> bool
+pub(crate) fn in_range(lo: usize, hi: usize, x: usize) -> bool
     ensures { λ r. ⌜ r ≡ within lo hi x ⌝ }
 {
     (lo <= x) & (x <= hi)

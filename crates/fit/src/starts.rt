@@ -21,7 +21,7 @@ fn first_of(p: Program, process: u8) -> usize
     m
 }
 
-pub fn starts_fit(p: Program) -> bool
+pub(crate) fn starts_fit(p: Program) -> bool
     requires { ⌜ p .steps ≤ maxSteps ⌝ }
     ensures { λ r. ⌜ r ≡ (bothStart p && not (bothCritical p)) ⌝ }
 {

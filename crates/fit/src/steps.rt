@@ -87,7 +87,7 @@ fn step_fits(p: Program, seen: usize, c: usize) -> bool
     }
 }
 
-pub fn steps_fit(p: Program) -> bool
+pub(crate) fn steps_fit(p: Program) -> bool
     requires { ⌜ p .steps ≤ maxSteps ⌝ }
     ensures { λ r. ⌜ r ≡ stepsFit p ⌝ }
 {

@@ -21,7 +21,8 @@ starts-fit-requires c κs = search needs
 
 returns-2 : tie.Need-returns-2
 unfolding programFits every
-returns-2 c = rw (le-leb _ _ (c .before .before .before .if1 .left)) (cc)
+returns-2 c = let few = le-leb _ _ (c .before .before .before .if1 .left) in
+    rw (few, c .before .before .in-range .ensures, c .before .steps-fit .ensures, c .starts-fit .ensures)
 
 pub program-fits-spec : {M : Type 1} → statement M
 program-fits-spec =

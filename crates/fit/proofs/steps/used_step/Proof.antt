@@ -46,7 +46,10 @@ value-fits-requires c κs = search needs
 
 returns : tie.Need-returns
 unfolding usedStep every
-returns c = cc
+returns c = let d = c .before .before .before in
+    let process = d .before .before .before .before .in-range .ensures in
+    let kind = d .before .before .in-range2 .ensures in
+    rw (process, kind, d .is-step .ensures, c .before .before .other-fits .ensures, c .before .variable-fits .ensures, c .value-fits .ensures)
 
 pub used-step-spec : {M : Type 1} → statement M
 used-step-spec =

@@ -1,0 +1,3 @@
+-- What the call answers, and below it how the code reckons it.
+pub mod Totals
+pub mod ByCounts
