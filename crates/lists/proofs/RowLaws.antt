@@ -1,7 +1,7 @@
 -- Laws of rows: their length, and what stands at a place.
 use mathlib.Core.Path.{_≡_, refl, _∙_}
 use mathlib.Core.Bool.{cond}
-use mathlib.Core.List.{List, [], _∷_, _++_}
+use mathlib.Core.List.{List, [], _∷_, _++_, map, map-append}
 use Prim.Native.Nat.{ℕ, zero, suc, _+_, _*_, _≤_, _<_}
 use native.Mathlib.Omega.{arith}
 use native.Mathlib.Decide.{ℕ-discrete}
@@ -95,3 +95,8 @@ getD-tab (suc n) f i d l = go (ℕ-discrete i n) (getD-tab n f i d)
     go : Dec (i ≡ n) → (i < n → getD (tab n f) i d ≡ f i) → getD (tab n f ++ (f n ∷ [])) i d ≡ f i
     go (yes e) h = rw e (getD-at (tab n f) (f n) [] d n (length-tab n f))
     go (no e) h = List·getD-append (tab n f) (f n ∷ []) d i (rw (length-tab n f) (omega arith)) ∙ h (omega arith)
+
+pub map-tab {ℓ ℓ′} : {S : Type ℓ} {T : Type ℓ′} (h : S → T) (n : ℕ) (f : ℕ → S) → map h (tab n f) ≡ tab n (λ i. h (f i))
+unfolding each
+map-tab h zero f = refl
+map-tab h (suc n) f = map-append h (tab n f) (f n ∷ []) ∙ rw (map-tab h n f)

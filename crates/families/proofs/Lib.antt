@@ -1,0 +1,3 @@
+-- The laws of the families.
+pub mod StepLaws
+pub mod LineLaws

@@ -1,0 +1,3 @@
+-- The laws of the parts.
+pub mod LineLaws
+pub mod ExclusionLaws
