@@ -53,12 +53,20 @@ table : let j = reading (bytes oneBit) .job in
     × (take 3 (j .program .value) ≡ 1 ∷ 0 ∷ 0 ∷ [])
     × (take 9 (j .labels) ≡ 65 ∷ 48 ∷ 0 ∷ 0 ∷ 66 ∷ 48 ∷ 0 ∷ 0 ∷ 0 ∷ [])
     × (take 5 (j .names) ≡ 97 ∷ 0 ∷ 0 ∷ 0 ∷ 0 ∷ [])
-unfolding bytes verdict every all within each passing first firstOf bothCritical upTo allOf starts alnum headed push lines entryIs lookup wordField fixedField bitField rangeField endField wholeLine firstLine numberAt valueOf thenFirst fresh bitOf elseLine endLine gotoLine testLine kindLine stepLine thenStep blank mentionAt processOf otherEnd enter addStep isLemmas isComment stepped programLine pickLined wholeProgramLine follow program opened fromLine1 programOf wholeLine1 withoutLemmas by targetOf aim enterTo enterOther on linkStep link started atLemmas onto words bare itemIn named lemma whole lemmaLine lemmaLines fromLemmas reading
+unfolding bytes verdict every all within each passing first firstOf bothCritical upTo allOf starts alnum headed push lines entryIs lookup wordField fixedField
+    bitField rangeField endField wholeLine firstLine numberAt valueOf thenFirst fresh bitOf elseLine endLine gotoLine testLine kindLine stepLine thenStep
+    blank mentionAt processOf otherEnd enter addStep isLemmas isComment stepped programLine pickLined wholeProgramLine follow program opened fromLine1
+    programOf wholeLine1 withoutLemmas by targetOf aim enterTo enterOther on linkStep link started atLemmas onto words bare itemIn named lemma whole
+    lemmaLine lemmaLines fromLemmas reading
 table = (refl, refl, refl, refl, refl, refl, refl, refl, refl, refl, refl)
 
 -- in a lemma `~` is negation
 items : take 4 (reading (bytes "bound 1\n~ one bit\nA0 a=1 goto A0\nB0 maybe goto B0\nlemmas\n~a  A0 B0\n") .job .items) ≡ negsuc 2 ∷ pos 1 ∷ pos 2 ∷ pos 0 ∷ []
-unfolding bytes verdict every all within each passing first firstOf bothCritical upTo allOf starts alnum headed push lines entryIs lookup wordField fixedField bitField rangeField endField wholeLine firstLine numberAt valueOf thenFirst fresh bitOf elseLine endLine gotoLine testLine kindLine stepLine thenStep blank mentionAt processOf otherEnd enter addStep isLemmas isComment stepped programLine pickLined wholeProgramLine follow program opened fromLine1 programOf wholeLine1 withoutLemmas by targetOf aim enterTo enterOther on linkStep link started atLemmas onto words bare itemIn named lemma whole lemmaLine lemmaLines fromLemmas reading
+unfolding bytes verdict every all within each passing first firstOf bothCritical upTo allOf starts alnum headed push lines entryIs lookup wordField fixedField
+    bitField rangeField endField wholeLine firstLine numberAt valueOf thenFirst fresh bitOf elseLine endLine gotoLine testLine kindLine stepLine thenStep
+    blank mentionAt processOf otherEnd enter addStep isLemmas isComment stepped programLine pickLined wholeProgramLine follow program opened fromLine1
+    programOf wholeLine1 withoutLemmas by targetOf aim enterTo enterOther on linkStep link started atLemmas onto words bare itemIn named lemma whole
+    lemmaLine lemmaLines fromLemmas reading
 items = refl
 
 -- each text with its refusal
@@ -103,5 +111,9 @@ refusals =
     ∷ []
 
 as-told : map (λ (c : String × Verdict). verdict (c .0)) refusals ≡ map (λ (c : String × Verdict). c .1) refusals
-unfolding bytes verdict every all within each passing first firstOf bothCritical upTo allOf starts alnum headed push lines entryIs lookup wordField fixedField bitField rangeField endField wholeLine firstLine numberAt valueOf thenFirst fresh bitOf elseLine endLine gotoLine testLine kindLine stepLine thenStep blank mentionAt processOf otherEnd enter addStep isLemmas isComment stepped programLine pickLined wholeProgramLine follow program opened fromLine1 programOf wholeLine1 withoutLemmas by targetOf aim enterTo enterOther on linkStep link started atLemmas onto words bare itemIn named lemma whole lemmaLine lemmaLines fromLemmas reading
+unfolding bytes verdict every all within each passing first firstOf bothCritical upTo allOf starts alnum headed push lines entryIs lookup wordField fixedField
+    bitField rangeField endField wholeLine firstLine numberAt valueOf thenFirst fresh bitOf elseLine endLine gotoLine testLine kindLine stepLine thenStep
+    blank mentionAt processOf otherEnd enter addStep isLemmas isComment stepped programLine pickLined wholeProgramLine follow program opened fromLine1
+    programOf wholeLine1 withoutLemmas by targetOf aim enterTo enterOther on linkStep link started atLemmas onto words bare itemIn named lemma whole
+    lemmaLine lemmaLines fromLemmas reading
 as-told = refl

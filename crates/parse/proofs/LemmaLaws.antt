@@ -70,10 +70,13 @@ word-first b (c ∷ cs) h = rw (ne-eqb b 32 h) (go (eqb c 32) refl (word-first c
     go true e g =
         let gone : words (c ∷ cs) ≡ words cs = ap (λ (t : Bool). cond t (words cs) (onto c cs (words cs))) e in
         ap (onto b (c ∷ cs)) gone ∙ short c cs (words cs) e
-        ∙ sym (ap (λ (t : Bool). (b ∷ cond t [] (c ∷ upTo 32 cs)) ∷ words (drop (length (cond t [] (c ∷ upTo 32 cs))) (c ∷ cs))) e ∙ ap (λ (l : List (List ℕ)). (b ∷ []) ∷ l) gone)
+        ∙ sym
+        (ap (λ (t : Bool). (b ∷ cond t [] (c ∷ upTo 32 cs)) ∷ words (drop (length (cond t [] (c ∷ upTo 32 cs))) (c ∷ cs))) e
+        ∙ ap (λ (l : List (List ℕ)). (b ∷ []) ∷ l) gone)
     go false e g =
+        let rest = words (drop (length (upTo 32 (c ∷ cs))) (c ∷ cs)) in
         ap (onto b (c ∷ cs)) (g (eqb-false c 32 e))
-        ∙ ap (λ (t : Bool). cond t ((b ∷ []) ∷ (upTo 32 (c ∷ cs) ∷ words (drop (length (upTo 32 (c ∷ cs))) (c ∷ cs)))) ((b ∷ upTo 32 (c ∷ cs)) ∷ words (drop (length (upTo 32 (c ∷ cs))) (c ∷ cs)))) e
+        ∙ ap (λ (t : Bool). cond t ((b ∷ []) ∷ (upTo 32 (c ∷ cs) ∷ rest)) ((b ∷ upTo 32 (c ∷ cs)) ∷ rest)) e
 
 pub words-word : (s : List ℕ) (at e : ℕ) → at < length s → (getD s at 0 ≡ 32 → ⊥) → e ≡ at + length (wordAt 32 s at) → words (drop at s) ≡ wordAt 32 s at ∷ words (drop e s)
 words-word s at e l h k =

@@ -14,19 +14,26 @@ use Rattle.scan.specs.Lines.{Row, row, push, lines}
 use Rattle.scan.proofs.WordLaws.{take-upTo}
 
 -- the first line of a text that has one, and the rest
-lines-first : (b : ℕ) (bs : List ℕ) → lines (b ∷ bs) ≡ row (upTo 10 (b ∷ bs)) (ltb (length (upTo 10 (b ∷ bs))) (suc (length bs))) ∷ lines (drop (suc (length (upTo 10 (b ∷ bs)))) (b ∷ bs))
+lines-first : (b : ℕ) (bs : List ℕ)
+    → lines (b ∷ bs)
+    ≡ row (upTo 10 (b ∷ bs)) (ltb (length (upTo 10 (b ∷ bs))) (suc (length bs))) ∷ lines (drop (suc (length (upTo 10 (b ∷ bs)))) (b ∷ bs))
 unfolding lines upTo push
 lines-first b [] = go (eqb b 10)
   where
-    go : (t : Bool) → cond t (row [] true ∷ []) (row (b ∷ []) false ∷ []) ≡ row (cond t [] (b ∷ [])) (ltb (length (cond t [] (b ∷ []))) 1) ∷ lines (drop (length (cond t [] (b ∷ []))) [])
+    go : (t : Bool) → cond t (row [] true ∷ []) (row (b ∷ []) false ∷ [])
+        ≡ row (cond t [] (b ∷ [])) (ltb (length (cond t [] (b ∷ []))) 1) ∷ lines (drop (length (cond t [] (b ∷ []))) [])
     go true = refl
     go false = refl
 lines-first b (d ∷ ds) = go (eqb b 10) (lines-first d ds)
   where
     go : (t : Bool) → lines (d ∷ ds) ≡ row (upTo 10 (d ∷ ds)) (ltb (length (upTo 10 (d ∷ ds))) (suc (length ds))) ∷ lines (drop (suc (length (upTo 10 (d ∷ ds)))) (d ∷ ds))
-        → cond t (row [] true ∷ lines (d ∷ ds)) (push b (lines (d ∷ ds))) ≡ row (cond t [] (b ∷ upTo 10 (d ∷ ds))) (ltb (length (cond t [] (b ∷ upTo 10 (d ∷ ds)))) (suc (suc (length ds)))) ∷ lines (drop (length (cond t [] (b ∷ upTo 10 (d ∷ ds)))) (d ∷ ds))
+        → cond t (row [] true ∷ lines (d ∷ ds)) (push b (lines (d ∷ ds)))
+        ≡ row (cond t [] (b ∷ upTo 10 (d ∷ ds))) (ltb (length (cond t [] (b ∷ upTo 10 (d ∷ ds)))) (suc (suc (length ds))))
+        ∷ lines (drop (length (cond t [] (b ∷ upTo 10 (d ∷ ds)))) (d ∷ ds))
     go true h = ap (λ (e : Bool). row [] e ∷ lines (d ∷ ds)) (sym (lt-ltb 0 (suc (suc (length ds))) (omega arith)))
-    go false h = ap (push b) h ∙ ap (λ (e : Bool). row (b ∷ upTo 10 (d ∷ ds)) e ∷ lines (drop (suc (length (upTo 10 (d ∷ ds)))) (d ∷ ds))) (sym (leb·suc-suc (suc (length (upTo 10 (d ∷ ds)))) (suc (length ds))))
+    go false h =
+        ap (push b) h
+        ∙ ap (λ (e : Bool). row (b ∷ upTo 10 (d ∷ ds)) e ∷ lines (drop (suc (length (upTo 10 (d ∷ ds)))) (d ∷ ds))) (sym (leb·suc-suc (suc (length (upTo 10 (d ∷ ds)))) (suc (length ds))))
 
 -- the same at a place of the text, whose line ends at e
 ltb-shift : (a n m : ℕ) → a < m → ltb n (m - a) ≡ ltb (a + n) m
@@ -40,13 +47,15 @@ split-first : (l : List ℕ) → 0 < length l → lines l ≡ row (upTo 10 l) (l
 split-first [] h = absurd (omega arith)
 split-first (b ∷ bs) h = lines-first b bs
 
-pub lines-at : (text : List ℕ) (at e : ℕ) → at < length text → e ≡ at + length (wordAt 10 text at) → lines (drop at text) ≡ row (take (e - at) (drop at text)) (ltb e (length text)) ∷ lines (drop (e + 1) text)
+pub lines-at : (text : List ℕ) (at e : ℕ) → at < length text → e ≡ at + length (wordAt 10 text at)
+    → lines (drop at text) ≡ row (take (e - at) (drop at text)) (ltb e (length text)) ∷ lines (drop (e + 1) text)
 lines-at text at e h k =
     let w = length (wordAt 10 text at) in
     let p : e - at ≡ w = omega arith in
     let q : at + suc w ≡ e + 1 = omega arith in
+    let ended = ap (ltb w) (length-drop at text) ∙ ltb-shift at w (length text) h ∙ ap (λ (x : ℕ). ltb x (length text)) (sym k) in
     split-first (drop at text) (omega (arith, length-drop at text))
-    ∙ ap (λ (b : Bool). row (wordAt 10 text at) b ∷ lines (drop (suc w) (drop at text))) (ap (ltb w) (length-drop at text) ∙ ltb-shift at w (length text) h ∙ ap (λ (x : ℕ). ltb x (length text)) (sym k))
+    ∙ ap (λ (b : Bool). row (wordAt 10 text at) b ∷ lines (drop (suc w) (drop at text))) ended
     ∙ ap (λ (l : List ℕ). row (wordAt 10 text at) (ltb e (length text)) ∷ lines l) (drop-drop (suc w) at text ∙ ap (λ (x : ℕ). drop x text) q)
     ∙ ap (λ (l : List ℕ). row l (ltb e (length text)) ∷ lines (drop (e + 1) text)) (sym (take-upTo 10 (drop at text)) ∙ ap (λ (x : ℕ). take x (drop at text)) (sym p))
 

@@ -27,9 +27,14 @@ alnum-requires : tie.Need-alnum-requires Inv-loop μ-loop
 alnum-requires c κs = search needs
 
 returns : tie.Need-returns Inv-loop μ-loop
-returns c = let a = c .before .before .before .before .before .before .args in
-    let i = c .before .before .before .before .loop .i in
-    sym (c .before .before .before .before .loop .inv ∙ all-step isAlnum (a .s .now) (a .to) i (omega arith) (omega arith) ∙ ap (λ (b : Bool). b && allOf isAlnum (slice (i + 1) (a .to) (a .s .now))) (sym (c .before .alnum .ensures) ∙ not-true _ (c .if1 .taken)))
+returns c =
+    let a = c .before .before .before .before .before .before .args in
+    let loop′ = c .before .before .before .before .loop in
+    let i = loop′ .i in
+    sym
+    (loop′ .inv
+    ∙ all-step isAlnum (a .s .now) (a .to) i (omega arith) (omega arith)
+    ∙ ap (λ (b : Bool). b && allOf isAlnum (slice (i + 1) (a .to) (a .s .now))) (sym (c .before .alnum .ensures) ∙ not-true _ (c .if1 .taken)))
 
 add-i : tie.Need-add-i Inv-loop μ-loop
 add-i c = search needs
@@ -38,9 +43,13 @@ loop-less : tie.Need-loop-less Inv-loop μ-loop
 loop-less c = search needs
 
 loop-again : tie.Need-loop-again Inv-loop μ-loop
-loop-again c = let a = c .before .before .before .before .before .before .args in
-    let i = c .before .before .before .before .loop .i in
-    c .before .before .before .before .loop .inv ∙ all-step isAlnum (a .s .now) (a .to) i (omega arith) (omega arith) ∙ ap (λ (b : Bool). b && allOf isAlnum (slice (i + 1) (a .to) (a .s .now))) (sym (c .before .alnum .ensures) ∙ not-false _ (c .if1 .left))
+loop-again c =
+    let a = c .before .before .before .before .before .before .args in
+    let loop′ = c .before .before .before .before .loop in
+    let i = loop′ .i in
+    loop′ .inv
+    ∙ all-step isAlnum (a .s .now) (a .to) i (omega arith) (omega arith)
+    ∙ ap (λ (b : Bool). b && allOf isAlnum (slice (i + 1) (a .to) (a .s .now))) (sym (c .before .alnum .ensures) ∙ not-false _ (c .if1 .left))
 
 returns-2 : tie.Need-returns-2 Inv-loop μ-loop
 returns-2 c = let a = c .before .before .before .args in sym (c .before .loop .inv ∙ all-none isAlnum (a .s .now) (a .to) (c .before .loop .i) (omega arith))

@@ -11,16 +11,29 @@ byte-at-requires : tie.Need-byte-at-requires
 byte-at-requires c κs = search needs
 
 returns : tie.Need-returns
-returns c = bit-no (c .before .before .before .args .s .now) (c .before .before .before .args .at) (c .before .byte-at .result) (c .before .byte-at .ensures) (within-under 48 49 _ (c .if1 .taken))
+returns c =
+    let args′ = c .before .before .before .args in
+    let byte-at′ = c .before .byte-at in
+    bit-no (args′ .s .now) (args′ .at) (byte-at′ .result) (byte-at′ .ensures) (within-under 48 49 _ (c .if1 .taken))
 
 returns-2 : tie.Need-returns-2
-returns-2 c = bit-no (c .before .before .before .before .args .s .now) (c .before .before .before .before .args .at) (c .before .before .byte-at .result) (c .before .before .byte-at .ensures) (within-over 48 49 _ (c .if2 .taken))
+returns-2 c =
+    let args′ = c .before .before .before .before .args in
+    let byte-at′ = c .before .before .byte-at in
+    bit-no (args′ .s .now) (args′ .at) (byte-at′ .result) (byte-at′ .ensures) (within-over 48 49 _ (c .if2 .taken))
 
 add-t9 : tie.Need-add-t9
-add-t9 c = omega (arith, byte-in (c .before .before .before .before .args .s .now) (c .before .before .before .before .args .at .column) (omega (arith, c .before .before .byte-at .ensures, c .before .if1 .left)), c .before .before .before .before .good)
+add-t9 c =
+    let args′ = c .before .before .before .before .args in
+    let good′ = c .before .before .before .before .good in
+    let byte-at′ = c .before .before .byte-at in
+    omega (arith, byte-in (args′ .s .now) (args′ .at .column) (omega (arith, byte-at′ .ensures, c .before .if1 .left)), good′)
 
 returns-3 : tie.Need-returns-3
-returns-3 c = bit-read (c .before .before .before .before .args .s .now) (c .before .before .before .before .args .at) (c .before .before .byte-at .result) (c .before .before .byte-at .ensures) (within-is 48 49 _ (c .before .if1 .left) (c .if2 .left))
+returns-3 c =
+    let args′ = c .before .before .before .before .args in
+    let byte-at′ = c .before .before .byte-at in
+    bit-read (args′ .s .now) (args′ .at) (byte-at′ .result) (byte-at′ .ensures) (within-is 48 49 _ (c .before .if1 .left) (c .if2 .left))
 
 pub bit-spec : {M : Type 1} → statement M
 bit-spec = tie.close (tie.spec byte-at-requires returns returns-2 add-t9 returns-3)

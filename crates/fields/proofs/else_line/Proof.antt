@@ -20,7 +20,10 @@ number-requires c κs = search needs
 
 returns : tie.Need-returns
 unfolding elseLine
-returns c = after-no (c .before .before .before .else-word .result) _ _ (c .before .enum-told2 .given .0 .0) _ (c .before .before .before .else-word .ensures) (c .before .enum-told2 .given .1) (c .number .ensures)
+returns c =
+    let else-word′ = c .before .before .before .else-word in
+    let enum-told2′ = c .before .enum-told2 in
+    after-no (else-word′ .result) _ _ (enum-told2′ .given .0 .0) _ (else-word′ .ensures) (enum-told2′ .given .1) (c .number .ensures)
 
 other-label-requires : tie.Need-other-label-requires
 other-label-requires c κs = search needs
@@ -36,13 +39,22 @@ number-requires-2 c κs = search needs
 
 returns-2 : tie.Need-returns-2
 unfolding elseLine
-returns-2 c = after-no (c .before .before .before .other-label .result) _ _ (c .before .enum-told4 .given .0 .0) _ (c .before .before .before .other-label .ensures) (c .before .enum-told4 .given .1) (c .number2 .ensures)
-    ∙ after-read (c .before .before .before .before .before .before .before .else-word .result) _ _ (c .before .before .before .before .before .before .before .else-word .ensures) (c .before .before .before .before .before .enum-told .given .1)
+returns-2 c =
+    let else-word′ = c .before .before .before .before .before .before .before .else-word in
+    let enum-told′ = c .before .before .before .before .before .enum-told in
+    let other-label′ = c .before .before .before .other-label in
+    let enum-told4′ = c .before .enum-told4 in
+    after-no (other-label′ .result) _ _ (enum-told4′ .given .0 .0) _ (other-label′ .ensures) (enum-told4′ .given .1) (c .number2 .ensures)
+    ∙ after-read (else-word′ .result) _ _ (else-word′ .ensures) (enum-told′ .given .1)
 
 returns-3 : tie.Need-returns-3
 unfolding elseLine
-returns-3 c = after-read (c .before .before .other-label .result) _ _ (c .before .before .other-label .ensures) (c .enum-told3 .given .1)
-    ∙ after-read (c .before .before .before .before .before .before .else-word .result) _ _ (c .before .before .before .before .before .before .else-word .ensures) (c .before .before .before .before .enum-told .given .1)
+returns-3 c =
+    let else-word′ = c .before .before .before .before .before .before .else-word in
+    let enum-told′ = c .before .before .before .before .enum-told in
+    let other-label′ = c .before .before .other-label in
+    after-read (other-label′ .result) _ _ (other-label′ .ensures) (c .enum-told3 .given .1)
+    ∙ after-read (else-word′ .result) _ _ (else-word′ .ensures) (enum-told′ .given .1)
 
 pub else-line-spec : {M : Type 1} → statement M
 else-line-spec =

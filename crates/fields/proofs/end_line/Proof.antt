@@ -19,7 +19,10 @@ number-requires c κs = search needs
 
 returns : tie.Need-returns
 unfolding endLine
-returns c = after-no (c .before .before .before .step-end .result) _ _ (c .before .enum-told2 .given .0 .0) _ (c .before .before .before .step-end .ensures) (c .before .enum-told2 .given .1) (c .number .ensures)
+returns c =
+    let step-end′ = c .before .before .before .step-end in
+    let enum-told2′ = c .before .enum-told2 in
+    after-no (step-end′ .result) _ _ (enum-told2′ .given .0 .0) _ (step-end′ .ensures) (enum-told2′ .given .1) (c .number .ensures)
 
 returns-2 : tie.Need-returns-2
 unfolding endLine

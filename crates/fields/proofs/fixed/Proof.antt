@@ -12,14 +12,20 @@ follows-requires : tie.Need-follows-requires
 follows-requires c κs = search needs
 
 add-t10 : tie.Need-add-t10
-add-t10 c = let a = c .before .before .before .before .args in
-    ⊎-elim (λ e. omega (arith, e, c .before .before .before .before .good)) (λ e. omega (arith, e)) (fixed-fits (a .w .now) (a .s .now) (a .at .column) (sym (c .before .follows .ensures) ∙ c .if1 .taken))
+add-t10 c =
+    let a = c .before .before .before .before .args in
+    let good′ = c .before .before .before .before .good in
+    ⊎-elim (λ e. omega (arith, e, good′)) (λ e. omega (arith, e)) (fixed-fits (a .w .now) (a .s .now) (a .at .column) (sym (c .before .follows .ensures) ∙ c .if1 .taken))
 
 returns : tie.Need-returns
-returns c = let a = c .before .before .before .before .args in fixed-read (a .w .now) (a .s .now) (a .number) (a .at) (sym (c .before .follows .ensures) ∙ c .if1 .taken)
+returns c =
+    let args′ = c .before .before .before .before .args in
+    let a = args′ in fixed-read (a .w .now) (a .s .now) (a .number) (a .at) (sym (c .before .follows .ensures) ∙ c .if1 .taken)
 
 returns-2 : tie.Need-returns-2
-returns-2 c = let a = c .before .before .before .before .args in fixed-no (a .w .now) (a .s .now) (a .number) (a .at) (sym (c .before .follows .ensures) ∙ c .if1 .left)
+returns-2 c =
+    let args′ = c .before .before .before .before .args in
+    let a = args′ in fixed-no (a .w .now) (a .s .now) (a .number) (a .at) (sym (c .before .follows .ensures) ∙ c .if1 .left)
 
 pub fixed-spec : {M : Type 1} → statement M
 fixed-spec = tie.close (tie.spec follows-requires add-t10 returns returns-2)

@@ -21,7 +21,10 @@ number-requires c κs = search needs
 
 returns : tie.Need-returns
 unfolding gotoLine
-returns c = after-no (c .before .before .before .goto-word .result) _ _ (c .before .enum-told2 .given .0 .0) _ (c .before .before .before .goto-word .ensures) (c .before .enum-told2 .given .1) (c .number .ensures)
+returns c =
+    let goto-word′ = c .before .before .before .goto-word in
+    let enum-told2′ = c .before .enum-told2 in
+    after-no (goto-word′ .result) _ _ (enum-told2′ .given .0 .0) _ (goto-word′ .ensures) (enum-told2′ .given .1) (c .number .ensures)
 
 to-label-requires : tie.Need-to-label-requires
 to-label-requires c κs = search needs
@@ -37,8 +40,13 @@ number-requires-2 c κs = search needs
 
 returns-2 : tie.Need-returns-2
 unfolding gotoLine
-returns-2 c = after-no (c .before .before .before .to-label .result) _ _ (c .before .enum-told4 .given .0 .0) _ (c .before .before .before .to-label .ensures) (c .before .enum-told4 .given .1) (c .number2 .ensures)
-    ∙ after-read (c .before .before .before .before .before .before .before .goto-word .result) _ _ (c .before .before .before .before .before .before .before .goto-word .ensures) (c .before .before .before .before .before .enum-told .given .1)
+returns-2 c =
+    let goto-word′ = c .before .before .before .before .before .before .before .goto-word in
+    let enum-told′ = c .before .before .before .before .before .enum-told in
+    let to-label′ = c .before .before .before .to-label in
+    let enum-told4′ = c .before .enum-told4 in
+    after-no (to-label′ .result) _ _ (enum-told4′ .given .0 .0) _ (to-label′ .ensures) (enum-told4′ .given .1) (c .number2 .ensures)
+    ∙ after-read (goto-word′ .result) _ _ (goto-word′ .ensures) (enum-told′ .given .1)
 
 else-line-requires : tie.Need-else-line-requires
 else-line-requires c κs = search needs
@@ -48,15 +56,25 @@ end-line-requires c κs = search needs
 
 returns-3 : tie.Need-returns-3
 unfolding gotoLine
-returns-3 c = c .else-line .ensures ∙ picked _ _ _ (eq-eqb _ _ (c .before .if1 .taken))
-    ∙ after-read (c .before .before .before .before .before .before .to-label .result) _ _ (c .before .before .before .before .before .before .to-label .ensures) (c .before .before .before .before .enum-told3 .given .1)
-    ∙ after-read (c .before .before .before .before .before .before .before .before .before .before .goto-word .result) _ _ (c .before .before .before .before .before .before .before .before .before .before .goto-word .ensures) (c .before .before .before .before .before .before .before .before .enum-told .given .1)
+returns-3 c =
+    let goto-word′ = c .before .before .before .before .before .before .before .before .before .before .goto-word in
+    let enum-told′ = c .before .before .before .before .before .before .before .before .enum-told in
+    let to-label′ = c .before .before .before .before .before .before .to-label in
+    let enum-told3′ = c .before .before .before .before .enum-told3 in
+    c .else-line .ensures ∙ picked _ _ _ (eq-eqb _ _ (c .before .if1 .taken))
+    ∙ after-read (to-label′ .result) _ _ (to-label′ .ensures) (enum-told3′ .given .1)
+    ∙ after-read (goto-word′ .result) _ _ (goto-word′ .ensures) (enum-told′ .given .1)
 
 returns-4 : tie.Need-returns-4
 unfolding gotoLine
-returns-4 c = c .end-line .ensures ∙ passed _ _ _ (ne-eqb _ _ (c .before .if1 .left))
-    ∙ after-read (c .before .before .before .before .before .before .to-label .result) _ _ (c .before .before .before .before .before .before .to-label .ensures) (c .before .before .before .before .enum-told3 .given .1)
-    ∙ after-read (c .before .before .before .before .before .before .before .before .before .before .goto-word .result) _ _ (c .before .before .before .before .before .before .before .before .before .before .goto-word .ensures) (c .before .before .before .before .before .before .before .before .enum-told .given .1)
+returns-4 c =
+    let goto-word′ = c .before .before .before .before .before .before .before .before .before .before .goto-word in
+    let enum-told′ = c .before .before .before .before .before .before .before .before .enum-told in
+    let to-label′ = c .before .before .before .before .before .before .to-label in
+    let enum-told3′ = c .before .before .before .before .enum-told3 in
+    c .end-line .ensures ∙ passed _ _ _ (ne-eqb _ _ (c .before .if1 .left))
+    ∙ after-read (to-label′ .result) _ _ (to-label′ .ensures) (enum-told3′ .given .1)
+    ∙ after-read (goto-word′ .result) _ _ (goto-word′ .ensures) (enum-told′ .given .1)
 
 pub goto-line-spec : {M : Type 1} → statement M
 goto-line-spec =

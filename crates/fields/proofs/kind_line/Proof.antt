@@ -16,7 +16,10 @@ follows-requires : tie.Need-follows-requires
 follows-requires c κs = search needs
 
 add-t11 : tie.Need-add-t11
-add-t11 c = omega (arith, fixed-within maybeWord (c .before .before .before .before .args .s .now) (c .before .before .before .before .args .b .column) (sym (c .before .follows .ensures) ∙ c .if1 .taken) (omega arith), c .before .before .before .before .good)
+add-t11 c =
+    let args′ = c .before .before .before .before .args in
+    let good′ = c .before .before .before .before .good in
+    omega (arith, fixed-within maybeWord (args′ .s .now) (args′ .b .column) (sym (c .before .follows .ensures) ∙ c .if1 .taken) (omega arith), good′)
 
 begun-requires : tie.Need-begun-requires
 begun-requires c κs = search needs
@@ -37,7 +40,10 @@ follows-requires-2 : tie.Need-follows-requires-2
 follows-requires-2 c κs = search needs
 
 add-t17 : tie.Need-add-t17
-add-t17 c = omega (arith, fixed-within criticalWord (c .before .before .before .before .before .before .before .args .s .now) (c .before .before .before .before .before .before .before .args .b .column) (sym (c .before .follows2 .ensures) ∙ c .if2 .taken) (omega arith), c .before .before .before .before .before .before .before .good)
+add-t17 c =
+    let args′ = c .before .before .before .before .before .before .before .args in
+    let good′ = c .before .before .before .before .before .before .before .good in
+    omega (arith, fixed-within criticalWord (args′ .s .now) (args′ .b .column) (sym (c .before .follows2 .ensures) ∙ c .if2 .taken) (omega arith), good′)
 
 begun-requires-2 : tie.Need-begun-requires-2
 begun-requires-2 c κs = search needs
@@ -59,7 +65,10 @@ follows-requires-3 : tie.Need-follows-requires-3
 follows-requires-3 c κs = search needs
 
 add-t23 : tie.Need-add-t23
-add-t23 c = omega (arith, fixed-within ifWord (c .before .before .before .before .before .before .before .before .before .before .args .s .now) (c .before .before .before .before .before .before .before .before .before .before .args .b .column) (sym (c .before .follows3 .ensures) ∙ c .if3 .taken) (omega arith), c .before .before .before .before .before .before .before .before .before .before .good)
+add-t23 c =
+    let args′ = c .before .before .before .before .before .before .before .before .before .before .args in
+    let good′ = c .before .before .before .before .before .before .before .before .before .before .good in
+    omega (arith, fixed-within ifWord (args′ .s .now) (args′ .b .column) (sym (c .before .follows3 .ensures) ∙ c .if3 .taken) (omega arith), good′)
 
 begun-requires-3 : tie.Need-begun-requires-3
 begun-requires-3 c κs = search needs
@@ -69,11 +78,18 @@ test-line-requires c κs = search needs
 
 returns-3 : tie.Need-returns-3
 unfolding kindLine
-returns-3 c = let a = c .before .before .before .before .before .before .before .before .before .before .before .before .args in
+returns-3 c =
+    let a = c .before .before .before .before .before .before .before .before .before .before .before .before .args in
+    let follows′ = c .before .before .before .before .before .before .before .before .before .follows in
+    let if1′ = c .before .before .before .before .before .before .before .before .if1 in
+    let follows2′ = c .before .before .before .before .before .before .follows2 in
+    let if2′ = c .before .before .before .before .before .if2 in
+    let follows3′ = c .before .before .before .follows3 in
+    let if3′ = c .before .before .if3 in
     c .test-line .ensures ∙ ap (λ (p : Step). testLine (a .s .now) (on (a .b) 3) p) (c .before .begun3 .ensures)
-    ∙ picked _ _ _ (sym (c .before .before .before .follows3 .ensures) ∙ c .before .before .if3 .taken)
-    ∙ passed _ _ _ (sym (c .before .before .before .before .before .before .follows2 .ensures) ∙ c .before .before .before .before .before .if2 .left)
-    ∙ passed _ _ _ (sym (c .before .before .before .before .before .before .before .before .before .follows .ensures) ∙ c .before .before .before .before .before .before .before .before .if1 .left)
+    ∙ picked _ _ _ (sym (follows3′ .ensures) ∙ if3′ .taken)
+    ∙ passed _ _ _ (sym (follows2′ .ensures) ∙ if2′ .left)
+    ∙ passed _ _ _ (sym (follows′ .ensures) ∙ if1′ .left)
 
 begun-requires-4 : tie.Need-begun-requires-4
 begun-requires-4 c κs = search needs
@@ -83,11 +99,18 @@ test-line-requires-2 c κs = search needs
 
 returns-4 : tie.Need-returns-4
 unfolding kindLine
-returns-4 c = let a = c .before .before .before .before .before .before .before .before .before .before .before .before .args in
+returns-4 c =
+    let a = c .before .before .before .before .before .before .before .before .before .before .before .before .args in
+    let follows′ = c .before .before .before .before .before .before .before .before .before .follows in
+    let if1′ = c .before .before .before .before .before .before .before .before .if1 in
+    let follows2′ = c .before .before .before .before .before .before .follows2 in
+    let if2′ = c .before .before .before .before .before .if2 in
+    let follows3′ = c .before .before .before .follows3 in
+    let if3′ = c .before .before .if3 in
     c .test-line2 .ensures ∙ ap (λ (p : Step). testLine (a .s .now) (a .b) p) (c .before .begun4 .ensures)
-    ∙ passed _ _ _ (sym (c .before .before .before .follows3 .ensures) ∙ c .before .before .if3 .left)
-    ∙ passed _ _ _ (sym (c .before .before .before .before .before .before .follows2 .ensures) ∙ c .before .before .before .before .before .if2 .left)
-    ∙ passed _ _ _ (sym (c .before .before .before .before .before .before .before .before .before .follows .ensures) ∙ c .before .before .before .before .before .before .before .before .if1 .left)
+    ∙ passed _ _ _ (sym (follows3′ .ensures) ∙ if3′ .left)
+    ∙ passed _ _ _ (sym (follows2′ .ensures) ∙ if2′ .left)
+    ∙ passed _ _ _ (sym (follows′ .ensures) ∙ if1′ .left)
 
 pub kind-line-spec : {M : Type 1} → statement M
 kind-line-spec =

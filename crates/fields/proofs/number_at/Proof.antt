@@ -28,16 +28,30 @@ value-requires-2 : tie.Need-value-requires-2
 value-requires-2 c κs = search needs
 
 add-result : tie.Need-add-result
-add-result c = omega (arith, c .before .value .ensures, value-most (c .before .before .before .before .before .byte-at .result), c .value2 .ensures, value-most (c .before .before .before .before .byte-at2 .result))
+add-result c =
+    let byte-at′ = c .before .before .before .before .before .byte-at in
+    let byte-at2′ = c .before .before .before .before .byte-at2 in
+    omega (arith, c .before .value .ensures, value-most (byte-at′ .result), c .value2 .ensures, value-most (byte-at2′ .result))
 
 value-requires-3 : tie.Need-value-requires-3
 value-requires-3 c κs = search needs
 
 returns : tie.Need-returns
-returns c = number-two (c .before .before .before .before .before .before .before .args .s .now) (c .before .before .before .before .before .before .before .args .column) _ _ _ _ (c .before .before .before .before .before .byte-at .ensures) (c .before .before .before .before .byte-at2 .ensures) (sym (c .before .before .before .is-digit .ensures) ∙ c .before .before .if1 .taken) (c .before .value .ensures) (c .value2 .ensures)
+returns c =
+    let args′ = c .before .before .before .before .before .before .before .args in
+    let byte-at′ = c .before .before .before .before .before .byte-at in
+    let byte-at2′ = c .before .before .before .before .byte-at2 in
+    let is-digit′ = c .before .before .before .is-digit in
+    let if1′ = c .before .before .if1 in
+    number-two (args′ .s .now) (args′ .column) _ _ _ _ (byte-at′ .ensures) (byte-at2′ .ensures) (sym (is-digit′ .ensures) ∙ if1′ .taken) (c .before .value .ensures) (c .value2 .ensures)
 
 returns-2 : tie.Need-returns-2
-returns-2 c = number-one (c .before .before .before .before .before .before .args .s .now) (c .before .before .before .before .before .before .args .column) _ _ _ (c .before .before .before .before .byte-at .ensures) (c .before .before .before .byte-at2 .ensures) (sym (c .before .before .is-digit .ensures) ∙ c .before .if1 .left) (c .value3 .ensures)
+returns-2 c =
+    let args′ = c .before .before .before .before .before .before .args in
+    let byte-at′ = c .before .before .before .before .byte-at in
+    let byte-at2′ = c .before .before .before .byte-at2 in
+    let is-digit′ = c .before .before .is-digit in
+    number-one (args′ .s .now) (args′ .column) _ _ _ (byte-at′ .ensures) (byte-at2′ .ensures) (sym (is-digit′ .ensures) ∙ c .before .if1 .left) (c .value3 .ensures)
 
 pub number-at-spec : {M : Type 1} → statement M
 number-at-spec =

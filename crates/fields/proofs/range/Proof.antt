@@ -14,13 +14,23 @@ byte-at-requires : tie.Need-byte-at-requires
 byte-at-requires c κs = search needs
 
 returns : tie.Need-returns
-returns c = range-no (c .before .before .before .args .s .now) (c .before .before .before .args .at) (c .before .byte-at .result) (c .before .byte-at .ensures) (within-under 49 57 _ (c .if1 .taken))
+returns c =
+    let args′ = c .before .before .before .args in
+    let byte-at′ = c .before .byte-at in
+    range-no (args′ .s .now) (args′ .at) (byte-at′ .result) (byte-at′ .ensures) (within-under 49 57 _ (c .if1 .taken))
 
 returns-2 : tie.Need-returns-2
-returns-2 c = range-no (c .before .before .before .before .args .s .now) (c .before .before .before .before .args .at) (c .before .before .byte-at .result) (c .before .before .byte-at .ensures) (within-over 49 57 _ (c .if2 .taken))
+returns-2 c =
+    let args′ = c .before .before .before .before .args in
+    let byte-at′ = c .before .before .byte-at in
+    range-no (args′ .s .now) (args′ .at) (byte-at′ .result) (byte-at′ .ensures) (within-over 49 57 _ (c .if2 .taken))
 
 add-byte-at : tie.Need-add-byte-at
-add-byte-at c = omega (arith, byte-in (c .before .before .before .before .args .s .now) (c .before .before .before .before .args .at .column) (omega (arith, c .before .before .byte-at .ensures, c .before .if1 .left)), c .before .before .before .before .good)
+add-byte-at c =
+    let args′ = c .before .before .before .before .args in
+    let good′ = c .before .before .before .before .good in
+    let byte-at′ = c .before .before .byte-at in
+    omega (arith, byte-in (args′ .s .now) (args′ .at .column) (omega (arith, byte-at′ .ensures, c .before .if1 .left)), good′)
 
 byte-at-requires-2 : tie.Need-byte-at-requires-2
 byte-at-requires-2 c κs = search needs
@@ -29,17 +39,40 @@ is-digit-requires : tie.Need-is-digit-requires
 is-digit-requires c κs = search needs
 
 add-t13 : tie.Need-add-t13
-add-t13 c = let d = sym (c .before .is-digit .ensures) ∙ c .if3 .taken in
-    omega (arith, byte-in (c .before .before .before .before .before .before .before .args .s .now) (c .before .before .before .before .before .before .before .args .at .column + 1) (omega (arith, c .before .before .byte-at2 .ensures, is-within 48 57 _ d)), c .before .before .before .before .before .before .before .good)
+add-t13 c =
+    let args′ = c .before .before .before .before .before .before .before .args in
+    let good′ = c .before .before .before .before .before .before .before .good in
+    let byte-at2′ = c .before .before .byte-at2 in
+    let d = sym (c .before .is-digit .ensures) ∙ c .if3 .taken in
+    omega (arith, byte-in (args′ .s .now) (args′ .at .column + 1) (omega (arith, byte-at2′ .ensures, is-within 48 57 _ d)), good′)
 
 add-t16 : tie.Need-add-t16
-add-t16 c = omega (arith, byte-in (c .before .before .before .before .before .before .before .args .s .now) (c .before .before .before .before .before .before .before .args .at .column) (omega (arith, c .before .before .before .before .before .byte-at .ensures, c .before .before .before .before .if1 .left)), c .before .before .before .before .before .before .before .good)
+add-t16 c =
+    let args′ = c .before .before .before .before .before .before .before .args in
+    let good′ = c .before .before .before .before .before .before .before .good in
+    let byte-at′ = c .before .before .before .before .before .byte-at in
+    let if1′ = c .before .before .before .before .if1 in
+    omega (arith, byte-in (args′ .s .now) (args′ .at .column) (omega (arith, byte-at′ .ensures, if1′ .left)), good′)
 
 returns-3 : tie.Need-returns-3
-returns-3 c = range-two (c .before .before .before .before .before .before .before .args .s .now) (c .before .before .before .before .before .before .before .args .at) (c .before .before .before .before .before .byte-at .result) (c .before .before .before .before .before .byte-at .ensures) (within-is 49 57 _ (c .before .before .before .before .if1 .left) (c .before .before .before .if2 .left)) (ap digit (sym (c .before .before .byte-at2 .ensures)) ∙ sym (c .before .is-digit .ensures) ∙ c .if3 .taken)
+returns-3 c =
+    let args′ = c .before .before .before .before .before .before .before .args in
+    let byte-at′ = c .before .before .before .before .before .byte-at in
+    let if1′ = c .before .before .before .before .if1 in
+    let if2′ = c .before .before .before .if2 in
+    let byte-at2′ = c .before .before .byte-at2 in
+    let second = ap digit (sym (byte-at2′ .ensures)) ∙ sym (c .before .is-digit .ensures) ∙ c .if3 .taken in
+    range-two (args′ .s .now) (args′ .at) (byte-at′ .result) (byte-at′ .ensures) (within-is 49 57 _ (if1′ .left) (if2′ .left)) second
 
 returns-4 : tie.Need-returns-4
-returns-4 c = range-one (c .before .before .before .before .before .before .before .args .s .now) (c .before .before .before .before .before .before .before .args .at) (c .before .before .before .before .before .byte-at .result) (c .before .before .before .before .before .byte-at .ensures) (within-is 49 57 _ (c .before .before .before .before .if1 .left) (c .before .before .before .if2 .left)) (ap digit (sym (c .before .before .byte-at2 .ensures)) ∙ sym (c .before .is-digit .ensures) ∙ c .if3 .left)
+returns-4 c =
+    let args′ = c .before .before .before .before .before .before .before .args in
+    let byte-at′ = c .before .before .before .before .before .byte-at in
+    let if1′ = c .before .before .before .before .if1 in
+    let if2′ = c .before .before .before .if2 in
+    let byte-at2′ = c .before .before .byte-at2 in
+    let second = ap digit (sym (byte-at2′ .ensures)) ∙ sym (c .before .is-digit .ensures) ∙ c .if3 .left in
+    range-one (args′ .s .now) (args′ .at) (byte-at′ .result) (byte-at′ .ensures) (within-is 49 57 _ (if1′ .left) (if2′ .left)) second
 
 pub range-spec : {M : Type 1} → statement M
 range-spec =

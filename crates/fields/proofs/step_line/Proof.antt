@@ -36,7 +36,10 @@ number-requires c κs = search needs
 
 returns : tie.Need-returns
 unfolding stepLine
-returns c = after-no (c .before .before .before .name .result) _ _ (c .before .enum-told2 .given .0 .0) _ (c .before .before .before .name .ensures) (c .before .enum-told2 .given .1) (c .number .ensures)
+returns c =
+    let name′ = c .before .before .before .name in
+    let enum-told2′ = c .before .enum-told2 in
+    after-no (name′ .result) _ _ (enum-told2′ .given .0 .0) _ (name′ .ensures) (enum-told2′ .given .1) (c .number .ensures)
 
 find-requires : tie.Need-find-requires
 find-requires c κs = search needs
@@ -49,8 +52,12 @@ enum-told-4 c = search needs
 
 returns-2 : tie.Need-returns-2
 unfolding stepLine
-returns-2 c = is-used _ (c .enum-told4 .given .0 .0) _ (sym (looked (c .before .before)) ∙ c .enum-told4 .given .1)
-    ∙ after-read (c .before .before .before .before .before .before .name .result) _ _ (c .before .before .before .before .before .before .name .ensures) (c .before .before .before .before .enum-told .given .1)
+returns-2 c =
+    let name′ = c .before .before .before .before .before .before .name in
+    let enum-told′ = c .before .before .before .before .enum-told in
+    let c2 = c .before .before in
+    is-used _ (c .enum-told4 .given .0 .0) _ (sym (looked (c2)) ∙ c .enum-told4 .given .1)
+    ∙ after-read (name′ .result) _ _ (name′ .ensures) (enum-told′ .given .1)
 
 space-requires : tie.Need-space-requires
 space-requires c κs = search needs
@@ -66,19 +73,32 @@ number-requires-2 c κs = search needs
 
 returns-3 : tie.Need-returns-3
 unfolding stepLine
-returns-3 c = after-no (c .before .before .before .space .result) _ _ (c .before .enum-told6 .given .0 .0) _ (c .before .before .before .space .ensures) (c .before .enum-told6 .given .1) (c .number2 .ensures)
-    ∙ is-new _ _ (sym (looked (c .before .before .before .before .before .before)) ∙ c .before .before .before .before .enum-told3 .given .1)
-    ∙ after-read (c .before .before .before .before .before .before .before .before .before .before .name .result) _ _ (c .before .before .before .before .before .before .before .before .before .before .name .ensures) (c .before .before .before .before .before .before .before .before .enum-told .given .1)
+returns-3 c =
+    let name′ = c .before .before .before .before .before .before .before .before .before .before .name in
+    let enum-told′ = c .before .before .before .before .before .before .before .before .enum-told in
+    let enum-told3′ = c .before .before .before .before .enum-told3 in
+    let space′ = c .before .before .before .space in
+    let enum-told6′ = c .before .enum-told6 in
+    let c6 = c .before .before .before .before .before .before in
+    after-no (space′ .result) _ _ (enum-told6′ .given .0 .0) _ (space′ .ensures) (enum-told6′ .given .1) (c .number2 .ensures)
+    ∙ is-new _ _ (sym (looked (c6)) ∙ enum-told3′ .given .1)
+    ∙ after-read (name′ .result) _ _ (name′ .ensures) (enum-told′ .given .1)
 
 kind-line-requires : tie.Need-kind-line-requires
 kind-line-requires c κs = search needs
 
 returns-4 : tie.Need-returns-4
 unfolding stepLine
-returns-4 c = c .kind-line .ensures
-    ∙ after-read (c .before .before .before .space .result) _ _ (c .before .before .before .space .ensures) (c .before .enum-told5 .given .1)
-    ∙ is-new _ _ (sym (looked (c .before .before .before .before .before .before)) ∙ c .before .before .before .before .enum-told3 .given .1)
-    ∙ after-read (c .before .before .before .before .before .before .before .before .before .before .name .result) _ _ (c .before .before .before .before .before .before .before .before .before .before .name .ensures) (c .before .before .before .before .before .before .before .before .enum-told .given .1)
+returns-4 c =
+    let name′ = c .before .before .before .before .before .before .before .before .before .before .name in
+    let enum-told′ = c .before .before .before .before .before .before .before .before .enum-told in
+    let enum-told3′ = c .before .before .before .before .enum-told3 in
+    let space′ = c .before .before .before .space in
+    let c6 = c .before .before .before .before .before .before in
+    c .kind-line .ensures
+    ∙ after-read (space′ .result) _ _ (space′ .ensures) (c .before .enum-told5 .given .1)
+    ∙ is-new _ _ (sym (looked (c6)) ∙ enum-told3′ .given .1)
+    ∙ after-read (name′ .result) _ _ (name′ .ensures) (enum-told′ .given .1)
 
 pub step-line-spec : {M : Type 1} → statement M
 step-line-spec =

@@ -21,7 +21,10 @@ number-requires c κs = search needs
 
 returns : tie.Need-returns
 unfolding testLine
-returns c = after-no (c .before .before .before .variable .result) _ _ (c .before .enum-told2 .given .0 .0) _ (c .before .before .before .variable .ensures) (c .before .enum-told2 .given .1) (c .number .ensures)
+returns c =
+    let variable′ = c .before .before .before .variable in
+    let enum-told2′ = c .before .enum-told2 in
+    after-no (variable′ .result) _ _ (enum-told2′ .given .0 .0) _ (variable′ .ensures) (enum-told2′ .given .1) (c .number .ensures)
 
 equals-requires : tie.Need-equals-requires
 equals-requires c κs = search needs
@@ -37,8 +40,13 @@ number-requires-2 c κs = search needs
 
 returns-2 : tie.Need-returns-2
 unfolding testLine
-returns-2 c = after-no (c .before .before .before .equals .result) _ _ (c .before .enum-told4 .given .0 .0) _ (c .before .before .before .equals .ensures) (c .before .enum-told4 .given .1) (c .number2 .ensures)
-    ∙ after-read (c .before .before .before .before .before .before .before .variable .result) _ _ (c .before .before .before .before .before .before .before .variable .ensures) (c .before .before .before .before .before .enum-told .given .1)
+returns-2 c =
+    let variable′ = c .before .before .before .before .before .before .before .variable in
+    let enum-told′ = c .before .before .before .before .before .enum-told in
+    let equals′ = c .before .before .before .equals in
+    let enum-told4′ = c .before .enum-told4 in
+    after-no (equals′ .result) _ _ (enum-told4′ .given .0 .0) _ (equals′ .ensures) (enum-told4′ .given .1) (c .number2 .ensures)
+    ∙ after-read (variable′ .result) _ _ (variable′ .ensures) (enum-told′ .given .1)
 
 bit-requires : tie.Need-bit-requires
 bit-requires c κs = search needs
@@ -54,9 +62,16 @@ number-requires-3 c κs = search needs
 
 returns-3 : tie.Need-returns-3
 unfolding testLine
-returns-3 c = after-no (c .before .before .before .bit .result) _ _ (c .before .enum-told6 .given .0 .0) _ (c .before .before .before .bit .ensures) (c .before .enum-told6 .given .1) (c .number3 .ensures)
-    ∙ after-read (c .before .before .before .before .before .before .before .equals .result) _ _ (c .before .before .before .before .before .before .before .equals .ensures) (c .before .before .before .before .before .enum-told3 .given .1)
-    ∙ after-read (c .before .before .before .before .before .before .before .before .before .before .before .variable .result) _ _ (c .before .before .before .before .before .before .before .before .before .before .before .variable .ensures) (c .before .before .before .before .before .before .before .before .before .enum-told .given .1)
+returns-3 c =
+    let variable′ = c .before .before .before .before .before .before .before .before .before .before .before .variable in
+    let enum-told′ = c .before .before .before .before .before .before .before .before .before .enum-told in
+    let equals′ = c .before .before .before .before .before .before .before .equals in
+    let enum-told3′ = c .before .before .before .before .before .enum-told3 in
+    let bit′ = c .before .before .before .bit in
+    let enum-told6′ = c .before .enum-told6 in
+    after-no (bit′ .result) _ _ (enum-told6′ .given .0 .0) _ (bit′ .ensures) (enum-told6′ .given .1) (c .number3 .ensures)
+    ∙ after-read (equals′ .result) _ _ (equals′ .ensures) (enum-told3′ .given .1)
+    ∙ after-read (variable′ .result) _ _ (variable′ .ensures) (enum-told′ .given .1)
 
 byte-at-requires : tie.Need-byte-at-requires
 byte-at-requires c κs = search needs
@@ -69,13 +84,21 @@ goto-line-requires c κs = search needs
 
 returns-4 : tie.Need-returns-4
 unfolding testLine
-returns-4 c = let a = c .before .before .before .before .before .before .before .before .before .before .before .before .before .before .before .args in
-    let value = c .before .bit-of .ensures ∙ ap bitOf (c .before .before .byte-at .ensures) in
+returns-4 c =
+    let a = c .before .before .before .before .before .before .before .before .before .before .before .before .before .before .before .args in
+    let variable′ = c .before .before .before .before .before .before .before .before .before .before .before .before .before .variable in
+    let enum-told′ = c .before .before .before .before .before .before .before .before .before .before .before .enum-told in
+    let equals′ = c .before .before .before .before .before .before .before .before .before .equals in
+    let enum-told3′ = c .before .before .before .before .before .before .before .enum-told3 in
+    let bit′ = c .before .before .before .before .before .bit in
+    let enum-told5′ = c .before .before .before .enum-told5 in
+    let byte-at′ = c .before .before .byte-at in
+    let value = c .before .bit-of .ensures ∙ ap bitOf (byte-at′ .ensures) in
     c .goto-line .ensures
-    ∙ ap (λ (v : ℕ). gotoLine (a .s .now) (c .before .before .before .before .before .bit .result .at) (tested (a .p) (a .at .column) (c .before .before .before .before .before .before .before .before .before .before .before .before .before .variable .result .at .column) v)) value
-    ∙ after-read (c .before .before .before .before .before .bit .result) _ _ (c .before .before .before .before .before .bit .ensures) (c .before .before .before .enum-told5 .given .1)
-    ∙ after-read (c .before .before .before .before .before .before .before .before .before .equals .result) _ _ (c .before .before .before .before .before .before .before .before .before .equals .ensures) (c .before .before .before .before .before .before .before .enum-told3 .given .1)
-    ∙ after-read (c .before .before .before .before .before .before .before .before .before .before .before .before .before .variable .result) _ _ (c .before .before .before .before .before .before .before .before .before .before .before .before .before .variable .ensures) (c .before .before .before .before .before .before .before .before .before .before .before .enum-told .given .1)
+    ∙ ap (λ (v : ℕ). gotoLine (a .s .now) (bit′ .result .at) (tested (a .p) (a .at .column) (variable′ .result .at .column) v)) value
+    ∙ after-read (bit′ .result) _ _ (bit′ .ensures) (enum-told5′ .given .1)
+    ∙ after-read (equals′ .result) _ _ (equals′ .ensures) (enum-told3′ .given .1)
+    ∙ after-read (variable′ .result) _ _ (variable′ .ensures) (enum-told′ .given .1)
 
 pub test-line-spec : {M : Type 1} → statement M
 test-line-spec =

@@ -14,21 +14,30 @@ sub-if1 : tie.Need-sub-if1
 sub-if1 c = search needs
 
 returns : tie.Need-returns
-returns c = let a = c .before .before .before .args in
-    word-long (a .stop) (a .most) (a .lo) (a .hi) (a .long) (a .ill) (a .s .now) (a .at) (c .before .end-of .result) (c .before .end-of .ensures) (c .if1 .taken)
+returns c =
+    let a = c .before .before .before .args in
+    let end-of′ = c .before .end-of in
+    word-long (a .stop) (a .most) (a .lo) (a .hi) (a .long) (a .ill) (a .s .now) (a .at) (end-of′ .result) (end-of′ .ensures) (c .if1 .taken)
 
 is-headed-requires : tie.Need-is-headed-requires
-is-headed-requires c κs = let a = c .before .before .before .args in word-fits (a .stop) (a .s .now) (a .at .column) (c .before .end-of .result) (c .before .end-of .ensures)
+is-headed-requires c κs =
+    let args′ = c .before .before .before .args in
+    let end-of′ = c .before .end-of in
+    let a = args′ in word-fits (a .stop) (a .s .now) (a .at .column) (end-of′ .result) (end-of′ .ensures)
 
 returns-2 : tie.Need-returns-2
-returns-2 c = let o = c .before .before in
+returns-2 c =
+    let o = c .before .before in
     let a = o .before .before .before .args in
-    word-ill (a .stop) (a .most) (a .lo) (a .hi) (a .long) (a .ill) (a .s .now) (a .at) (o .before .end-of .result) (o .before .end-of .ensures) (o .if1 .left) (sym (c .before .is-headed .ensures) ∙ not-true _ (c .if2 .taken))
+    let form = sym (c .before .is-headed .ensures) ∙ not-true _ (c .if2 .taken) in
+    word-ill (a .stop) (a .most) (a .lo) (a .hi) (a .long) (a .ill) (a .s .now) (a .at) (o .before .end-of .result) (o .before .end-of .ensures) (o .if1 .left) form
 
 returns-3 : tie.Need-returns-3
-returns-3 c = let o = c .before .before in
+returns-3 c =
+    let o = c .before .before in
     let a = o .before .before .before .args in
-    word-read (a .stop) (a .most) (a .lo) (a .hi) (a .long) (a .ill) (a .s .now) (a .at) (o .before .end-of .result) (o .before .end-of .ensures) (o .if1 .left) (sym (c .before .is-headed .ensures) ∙ not-false _ (c .if2 .left))
+    let form = sym (c .before .is-headed .ensures) ∙ not-false _ (c .if2 .left) in
+    word-read (a .stop) (a .most) (a .lo) (a .hi) (a .long) (a .ill) (a .s .now) (a .at) (o .before .end-of .result) (o .before .end-of .ensures) (o .if1 .left) form
 
 pub word-spec : {M : Type 1} → statement M
 word-spec =

@@ -29,24 +29,43 @@ enum-told : tie.Need-enum-told
 enum-told c = search needs
 
 returns : tie.Need-returns
-returns c = is-unknown (c .before .before .before .before .before .args .process .now) (c .before .before .before .before .before .args .k) _ (sym (c .before .before .find .ensures) ∙ c .enum-told .given .1)
+returns c =
+    let args′ = c .before .before .before .before .before .args in
+    let find′ = c .before .before .find in
+    is-unknown (args′ .process .now) (args′ .k) _ (sym (find′ .ensures) ∙ c .enum-told .given .1)
 
 element-copy-out-if1 : tie.Need-element-copy-out-if1
-element-copy-out-if1 c = let a = c .before .before .before .before .before .before .args in
-    omega (arith, lookup-below (a .labels .now) (a .m) (slice (a .k * 4) (a .k * 4 + 4) (a .names .now)) (c .before .f .given .0 .0) (sym (c .before .before .before .find .ensures) ∙ c .before .f .given .1), c .before .before .before .before .before .before .pre)
+element-copy-out-if1 c =
+    let a = c .before .before .before .before .before .before .args in
+    let pre′ = c .before .before .before .before .before .before .pre in
+    let find′ = c .before .before .before .find in
+    let f′ = c .before .f in
+    omega (arith, lookup-below (a .labels .now) (a .m) (slice (a .k * 4) (a .k * 4 + 4) (a .names .now)) (f′ .given .0 .0) (sym (find′ .ensures) ∙ f′ .given .1), pre′)
 
 element-copy-out-if1-2 : tie.Need-element-copy-out-if1-2
 element-copy-out-if1-2 c = search needs
 
 add-t23 : tie.Need-add-t23
-add-t23 c = let a = c .before .before .before .before .before .before .before .before .before .args in
-    omega (arith, lookup-below (a .labels .now) (a .m) (slice (a .k * 4) (a .k * 4 + 4) (a .names .now)) (c .before .before .before .before .f .given .0 .0) (sym (c .before .before .before .before .before .before .find .ensures) ∙ c .before .before .before .before .f .given .1), c .before .before .before .before .before .before .before .before .before .pre)
+add-t23 c =
+    let a = c .before .before .before .before .before .before .before .before .before .args in
+    let pre′ = c .before .before .before .before .before .before .before .before .before .pre in
+    let find′ = c .before .before .before .before .before .before .find in
+    let f′ = c .before .before .before .before .f in
+    omega (arith, lookup-below (a .labels .now) (a .m) (slice (a .k * 4) (a .k * 4 + 4) (a .names .now)) (f′ .given .0 .0) (sym (find′ .ensures) ∙ f′ .given .1), pre′)
 
 returns-2 : tie.Need-returns-2
-returns-2 c = is-own (c .before .before .before .before .before .before .before .before .before .args .process .now) (c .before .before .before .before .before .before .before .before .before .args .k) _ (c .before .before .before .before .f .given .0 .0) (sym (c .before .before .before .before .before .before .find .ensures) ∙ c .before .before .before .before .f .given .1) (eq-eqb _ _ (c .if1 .taken))
+returns-2 c =
+    let args′ = c .before .before .before .before .before .before .before .before .before .args in
+    let find′ = c .before .before .before .before .before .before .find in
+    let f′ = c .before .before .before .before .f in
+    is-own (args′ .process .now) (args′ .k) _ (f′ .given .0 .0) (sym (find′ .ensures) ∙ f′ .given .1) (eq-eqb _ _ (c .if1 .taken))
 
 returns-3 : tie.Need-returns-3
-returns-3 c = is-other (c .before .before .before .before .before .before .before .before .before .args .process .now) (c .before .before .before .before .before .before .before .before .before .args .k) _ (c .before .before .before .before .f .given .0 .0) (sym (c .before .before .before .before .before .before .find .ensures) ∙ c .before .before .before .before .f .given .1) (ne-eqb _ _ (c .if1 .left))
+returns-3 c =
+    let args′ = c .before .before .before .before .before .before .before .before .before .args in
+    let find′ = c .before .before .before .before .before .before .find in
+    let f′ = c .before .before .before .before .f in
+    is-other (args′ .process .now) (args′ .k) _ (f′ .given .0 .0) (sym (find′ .ensures) ∙ f′ .given .1) (ne-eqb _ _ (c .if1 .left))
 
 pub aim-spec : {M : Type 1} → statement M
 aim-spec =

@@ -14,7 +14,10 @@ refused-requires : tie.Need-refused-requires
 refused-requires c κs = search needs
 
 returns : tie.Need-returns
-returns c = c .refused .ensures ∙ at-99 (c .before .before .before .before .before .before .args .d) (c .before .before .before .before .before .before .args .n) (c .before .before .first-of .result) (c .before .before .first-of .ensures) (c .before .if1 .taken)
+returns c =
+    let args′ = c .before .before .before .before .before .before .args in
+    let first-of′ = c .before .before .first-of in
+    c .refused .ensures ∙ at-99 (args′ .d) (args′ .n) (first-of′ .result) (first-of′ .ensures) (c .before .if1 .taken)
 
 first-of-requires-2 : tie.Need-first-of-requires-2
 first-of-requires-2 c κs = search needs
@@ -23,7 +26,13 @@ refused-requires-2 : tie.Need-refused-requires-2
 refused-requires-2 c κs = search needs
 
 returns-2 : tie.Need-returns-2
-returns-2 c = c .refused2 .ensures ∙ at-98 (c .before .before .before .before .before .before .before .before .before .before .args .d) (c .before .before .before .before .before .before .before .before .before .before .args .n) (c .before .before .before .before .before .before .first-of .result) (c .before .before .first-of2 .result) (c .before .before .before .before .before .before .first-of .ensures) (c .before .before .first-of2 .ensures) (c .before .before .before .before .before .if1 .left) (c .before .if2 .taken)
+returns-2 c =
+    let args′ = c .before .before .before .before .before .before .before .before .before .before .args in
+    let first-of′ = c .before .before .before .before .before .before .first-of in
+    let if1′ = c .before .before .before .before .before .if1 in
+    let first-of2′ = c .before .before .first-of2 in
+    c .refused2 .ensures
+    ∙ at-98 (args′ .d) (args′ .n) (first-of′ .result) (first-of2′ .result) (first-of′ .ensures) (first-of2′ .ensures) (if1′ .left) (c .before .if2 .taken)
 
 link-requires : tie.Need-link-requires
 link-requires c κs = search needs
@@ -38,10 +47,18 @@ denied-requires : tie.Need-denied-requires
 denied-requires c κs = search needs
 
 returns-3 : tie.Need-returns-3
-returns-3 c = let d = c .before .before .before .before .before .before .before .before .before .before .before .before .before .args .d in
+returns-3 c =
+    let args′ = c .before .before .before .before .before .before .before .before .before .before .before .before .before .args in
+    let first-of′ = c .before .before .before .before .before .before .before .before .before .first-of in
+    let if1′ = c .before .before .before .before .before .before .before .before .if1 in
+    let first-of2′ = c .before .before .before .before .before .first-of2 in
+    let if2′ = c .before .before .before .before .if2 in
+    let link′ = c .before .before .before .link in
+    let enum-told2′ = c .before .enum-told2 in
+    let d = args′ .d in
     c .denied .ensures
-    ∙ start-no d (c .before .before .before .before .before .before .before .before .before .before .before .before .before .args .n) (c .before .before .before .link .result) _ (c .before .before .before .link .ensures) (c .before .enum-told2 .given .0 .0) (c .before .enum-told2 .given .1)
-    ∙ at-on d (c .before .before .before .before .before .before .before .before .before .before .before .before .before .args .n) (c .before .before .before .before .before .before .before .before .before .first-of .result) (c .before .before .before .before .before .first-of2 .result) (c .before .before .before .before .before .before .before .before .before .first-of .ensures) (c .before .before .before .before .before .first-of2 .ensures) (c .before .before .before .before .before .before .before .before .if1 .left) (c .before .before .before .before .if2 .left)
+    ∙ start-no d (args′ .n) (link′ .result) _ (link′ .ensures) (enum-told2′ .given .0 .0) (enum-told2′ .given .1)
+    ∙ at-on d (args′ .n) (first-of′ .result) (first-of2′ .result) (first-of′ .ensures) (first-of2′ .ensures) (if1′ .left) (if2′ .left)
 
 both-critical-requires : tie.Need-both-critical-requires
 both-critical-requires c κs = search needs
@@ -50,21 +67,39 @@ refused-requires-3 : tie.Need-refused-requires-3
 refused-requires-3 c κs = search needs
 
 returns-4 : tie.Need-returns-4
-returns-4 c = let d = c .before .before .before .before .before .before .before .before .before .before .before .before .before .before .before .before .before .args .d in
-    let critical = critical-is d (c .before .before .before .before .before .before .before .before .before .before .before .before .before .before .before .before .before .args .n) (c .before .before .before .before .before .before .before .before .before .before .before .before .before .first-of .result) (c .before .before .before .before .before .before .before .before .before .first-of2 .result) (c .before .before .before .before .before .before .before .before .before .before .before .before .before .first-of .ensures) (c .before .before .before .before .before .before .before .before .before .first-of2 .ensures) in
+returns-4 c =
+    let args′ = c .before .before .before .before .before .before .before .before .before .before .before .before .before .before .before .before .before .args in
+    let first-of′ = c .before .before .before .before .before .before .before .before .before .before .before .before .before .first-of in
+    let if1′ = c .before .before .before .before .before .before .before .before .before .before .before .before .if1 in
+    let first-of2′ = c .before .before .before .before .before .before .before .before .before .first-of2 in
+    let if2′ = c .before .before .before .before .before .before .before .before .if2 in
+    let link′ = c .before .before .before .before .before .before .before .link in
+    let enum-told′ = c .before .before .before .before .before .enum-told in
+    let both-critical′ = c .before .before .both-critical in
+    let d = args′ .d in
+    let critical = critical-is d (args′ .n) (first-of′ .result) (first-of2′ .result) (first-of′ .ensures) (first-of2′ .ensures) in
     c .refused3 .ensures
-    ∙ start-critical d (c .before .before .before .before .before .before .before .before .before .before .before .before .before .before .before .before .before .args .n) (c .before .before .before .before .before .before .before .link .result) _ (c .before .before .before .before .before .before .before .link .ensures) (c .before .before .before .before .before .enum-told .given .1) (sym critical ∙ sym (c .before .before .both-critical .ensures) ∙ c .before .if3 .taken)
-    ∙ at-on d (c .before .before .before .before .before .before .before .before .before .before .before .before .before .before .before .before .before .args .n) (c .before .before .before .before .before .before .before .before .before .before .before .before .before .first-of .result) (c .before .before .before .before .before .before .before .before .before .first-of2 .result) (c .before .before .before .before .before .before .before .before .before .before .before .before .before .first-of .ensures) (c .before .before .before .before .before .before .before .before .before .first-of2 .ensures) (c .before .before .before .before .before .before .before .before .before .before .before .before .if1 .left) (c .before .before .before .before .before .before .before .before .if2 .left)
+    ∙ start-critical d (args′ .n) (link′ .result) _ (link′ .ensures) (enum-told′ .given .1) (sym critical ∙ sym (both-critical′ .ensures) ∙ c .before .if3 .taken)
+    ∙ at-on d (args′ .n) (first-of′ .result) (first-of2′ .result) (first-of′ .ensures) (first-of2′ .ensures) (if1′ .left) (if2′ .left)
 
 without-lemmas-requires : tie.Need-without-lemmas-requires
 without-lemmas-requires c κs = search needs
 
 returns-5 : tie.Need-returns-5
-returns-5 c = let d = c .before .before .before .before .before .before .before .before .before .before .before .before .before .before .before .before .before .args .d in
-    let critical = critical-is d (c .before .before .before .before .before .before .before .before .before .before .before .before .before .before .before .before .before .args .n) (c .before .before .before .before .before .before .before .before .before .before .before .before .before .first-of .result) (c .before .before .before .before .before .before .before .before .before .first-of2 .result) (c .before .before .before .before .before .before .before .before .before .before .before .before .before .first-of .ensures) (c .before .before .before .before .before .before .before .before .before .first-of2 .ensures) in
+returns-5 c =
+    let args′ = c .before .before .before .before .before .before .before .before .before .before .before .before .before .before .before .before .before .args in
+    let first-of′ = c .before .before .before .before .before .before .before .before .before .before .before .before .before .first-of in
+    let if1′ = c .before .before .before .before .before .before .before .before .before .before .before .before .if1 in
+    let first-of2′ = c .before .before .before .before .before .before .before .before .before .first-of2 in
+    let if2′ = c .before .before .before .before .before .before .before .before .if2 in
+    let link′ = c .before .before .before .before .before .before .before .link in
+    let enum-told′ = c .before .before .before .before .before .enum-told in
+    let both-critical′ = c .before .before .both-critical in
+    let d = args′ .d in
+    let critical = critical-is d (args′ .n) (first-of′ .result) (first-of2′ .result) (first-of′ .ensures) (first-of2′ .ensures) in
     ap (λ (j : Job). accept j) (c .without-lemmas .ensures)
-    ∙ start-on d (c .before .before .before .before .before .before .before .before .before .before .before .before .before .before .before .before .before .args .n) (c .before .before .before .before .before .before .before .link .result) _ (c .before .before .before .before .before .before .before .link .ensures) (c .before .before .before .before .before .enum-told .given .1) (sym critical ∙ sym (c .before .before .both-critical .ensures) ∙ c .before .if3 .left)
-    ∙ at-on d (c .before .before .before .before .before .before .before .before .before .before .before .before .before .before .before .before .before .args .n) (c .before .before .before .before .before .before .before .before .before .before .before .before .before .first-of .result) (c .before .before .before .before .before .before .before .before .before .first-of2 .result) (c .before .before .before .before .before .before .before .before .before .before .before .before .before .first-of .ensures) (c .before .before .before .before .before .before .before .before .before .first-of2 .ensures) (c .before .before .before .before .before .before .before .before .before .before .before .before .if1 .left) (c .before .before .before .before .before .before .before .before .if2 .left)
+    ∙ start-on d (args′ .n) (link′ .result) _ (link′ .ensures) (enum-told′ .given .1) (sym critical ∙ sym (both-critical′ .ensures) ∙ c .before .if3 .left)
+    ∙ at-on d (args′ .n) (first-of′ .result) (first-of2′ .result) (first-of′ .ensures) (first-of2′ .ensures) (if1′ .left) (if2′ .left)
 
 pub at-lemmas-spec : {M : Type 1} → statement M
 at-lemmas-spec =

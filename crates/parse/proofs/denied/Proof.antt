@@ -14,7 +14,9 @@ without-lemmas-requires : tie.Need-without-lemmas-requires
 without-lemmas-requires c κs = search needs
 
 returns : tie.Need-returns
-returns c = let v = c .before .before .args .verdict in
+returns c =
+    let args′ = c .before .before .args in
+    let v = args′ .verdict in
     ap (λ (j : Job). record { verdict = v; job = j }) (c .without-lemmas .ensures ∙ ap (λ (d : Draft). withoutLemmas d (d .program)) (c .before .blank .ensures))
 
 pub denied-spec : {M : Type 1} → statement M

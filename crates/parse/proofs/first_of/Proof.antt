@@ -24,8 +24,10 @@ element-copy-out-if1 : tie.Need-element-copy-out-if1 Inv-loop μ-loop
 element-copy-out-if1 c = search needs
 
 returns : tie.Need-returns Inv-loop μ-loop
-returns c = let a = c .before .before .before .before .args in
-    sym (first-found (λ n. eqb (num (a .process .now) n) (a .p)) (c .before .before .before .loop .i) (a .m) (c .before .before .before .loop .inv .1) (eq-eqb _ _ (c .if1 .taken)) (omega arith))
+returns c =
+    let a = c .before .before .before .before .args in
+    let loop′ = c .before .before .before .loop in
+    sym (first-found (λ n. eqb (num (a .process .now) n) (a .p)) (loop′ .i) (a .m) (loop′ .inv .1) (eq-eqb _ _ (c .if1 .taken)) (omega arith))
 
 add-i : tie.Need-add-i Inv-loop μ-loop
 add-i c = search needs
@@ -34,8 +36,10 @@ loop-less : tie.Need-loop-less Inv-loop μ-loop
 loop-less c = search needs
 
 loop-again : tie.Need-loop-again Inv-loop μ-loop
-loop-again c = let a = c .before .before .before .before .args in
-    (omega arith, first-none (λ n. eqb (num (a .process .now) n) (a .p)) (c .before .before .before .loop .i) (c .before .before .before .loop .inv .1) (ne-eqb _ _ (c .if1 .left)))
+loop-again c =
+    let a = c .before .before .before .before .args in
+    let loop′ = c .before .before .before .loop in
+    (omega arith, first-none (λ n. eqb (num (a .process .now) n) (a .p)) (loop′ .i) (loop′ .inv .1) (ne-eqb _ _ (c .if1 .left)))
 
 returns-2 : tie.Need-returns-2 Inv-loop μ-loop
 returns-2 c = let a = c .before .before .args in

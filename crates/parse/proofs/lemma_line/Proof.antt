@@ -25,21 +25,33 @@ refused-requires c κs = search needs
 
 returns : tie.Need-returns
 unfolding lemmaLine
-returns c = c .refused .ensures ∙ no-line (c .before .before .before .before .line .result) _ (c .before .before .before .before .before .before .args .n) _ (c .before .before .before .before .line .ensures) _ _ (c .before .before .enum-told2 .given .1) (c .before .number .ensures)
+returns c =
+    let args′ = c .before .before .before .before .before .before .args in
+    let line′ = c .before .before .before .before .line in
+    let enum-told2′ = c .before .before .enum-told2 in
+    c .refused .ensures ∙ no-line (line′ .result) _ (args′ .n) _ (line′ .ensures) _ _ (enum-told2′ .given .1) (c .before .number .ensures)
 
 refused-requires-2 : tie.Need-refused-requires-2
 refused-requires-2 c κs = search needs
 
 returns-2 : tie.Need-returns-2
 unfolding lemmaLine
-returns-2 c = c .refused2 .ensures ∙ picked _ _ _ (le-leb _ _ (c .before .if1 .taken)) ∙ is-whole (c .before .before .before .before .before .line .result) _ (c .before .before .before .before .before .before .before .args .n) _ (c .before .before .before .before .before .line .ensures) (c .before .before .before .enum-told .given .1)
+returns-2 c =
+    let args′ = c .before .before .before .before .before .before .before .args in
+    let line′ = c .before .before .before .before .before .line in
+    let enum-told′ = c .before .before .before .enum-told in
+    c .refused2 .ensures ∙ picked _ _ _ (le-leb _ _ (c .before .if1 .taken)) ∙ is-whole (line′ .result) _ (args′ .n) _ (line′ .ensures) (enum-told′ .given .1)
 
 lemma-of-requires : tie.Need-lemma-of-requires
 lemma-of-requires c κs = search needs
 
 returns-3 : tie.Need-returns-3
 unfolding lemmaLine
-returns-3 c = c .lemma-of .ensures ∙ passed _ _ _ (lt-leb _ _ (c .before .if1 .left)) ∙ is-whole (c .before .before .before .before .before .line .result) _ (c .before .before .before .before .before .before .before .args .n) _ (c .before .before .before .before .before .line .ensures) (c .before .before .before .enum-told .given .1)
+returns-3 c =
+    let args′ = c .before .before .before .before .before .before .before .args in
+    let line′ = c .before .before .before .before .before .line in
+    let enum-told′ = c .before .before .before .enum-told in
+    c .lemma-of .ensures ∙ passed _ _ _ (lt-leb _ _ (c .before .if1 .left)) ∙ is-whole (line′ .result) _ (args′ .n) _ (line′ .ensures) (enum-told′ .given .1)
 
 pub lemma-line-spec : {M : Type 1} → statement M
 lemma-line-spec =

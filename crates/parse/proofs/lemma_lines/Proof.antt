@@ -86,7 +86,11 @@ denied-requires : tie.Need-denied-requires Inv-loop μ-loop
 denied-requires c κs = search needs
 
 returns : tie.Need-returns Inv-loop μ-loop
-returns c = c .denied .ensures ∙ turn (c .before .before .before .before) _ (ends-here (c .before .before .before .before .lemma-line .result) _ _ refl (c .before .enum-told2 .given .0 .0) (c .before .enum-told2 .given .1))
+returns c =
+    let lemma-line′ = c .before .before .before .before .lemma-line in
+    let enum-told2′ = c .before .enum-told2 in
+    let c4 = c .before .before .before .before in
+    c .denied .ensures ∙ turn (c4) _ (ends-here (lemma-line′ .result) _ _ refl (enum-told2′ .given .0 .0) (enum-told2′ .given .1))
 
 add-at : tie.Need-add-at Inv-loop μ-loop
 add-at c = omega (arith, ends (c .before .before .before .before .before), c .before .before .before .before .before .before .before .before .before .pre)
@@ -98,9 +102,14 @@ loop-less : tie.Need-loop-less Inv-loop μ-loop
 loop-less c = omega (arith, ends (c .before .before .before .before .before))
 
 loop-again : tie.Need-loop-again Inv-loop μ-loop
-loop-again c = let e = ends (c .before .before .before .before .before) in
-    let r = c .before .before .before .lemma-line .result in
-    (omega (arith, e, c .before .before .before .before .before .before .before .loop .inv .0), holds-of _ r (same (c .before .before .before)) (c .enum-told .given .1), sym (turn (c .before .before .before) _ (goes-on r _ _ refl (c .enum-told .given .1))))
+loop-again c =
+    let loop′ = c .before .before .before .before .before .before .before .loop in
+    let lemma-line′ = c .before .before .before .lemma-line in
+    let c5 = c .before .before .before .before .before in
+    let c3 = c .before .before .before in
+    let e = ends (c5) in
+    let r = lemma-line′ .result in
+    (omega (arith, e, loop′ .inv .0), holds-of _ r (same (c3)) (c .enum-told .given .1), sym (turn (c3) _ (goes-on r _ _ refl (c .enum-told .given .1))))
 
 returns-2 : tie.Need-returns-2 Inv-loop μ-loop
 returns-2 c = let none = lines-out (c .before .before .before .args .text .now) (c .before .loop .at) (omega arith) in

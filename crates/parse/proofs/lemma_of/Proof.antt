@@ -68,7 +68,9 @@ item c =
 
 -- what is stored is the item with the word's sign
 stored : (c : tie.After-signed Inv-loop μ-loop) → let f = c .before .before .before .before .before .before .before .before .before in
-    toZ w16 (ofZ w16 (c .signed .result)) ≡ signedItem (negated (wordAt 32 (f .before .before .before .before .before .before .args .s .now) (f .before .before .before .before .loop .at))) (c .before .before .before .item-of .result)
+    let o = f .before .before .before .before in
+    toZ w16 (ofZ w16 (c .signed .result))
+    ≡ signedItem (negated (wordAt 32 (o .before .before .args .s .now) (o .loop .at))) (c .before .before .before .item-of .result)
 stored c =
     let f = c .before .before .before .before .before .before .before .before .before in
     let o = f .before .before .before .before in
@@ -88,12 +90,14 @@ loop-less : tie.Need-loop-less Inv-loop μ-loop
 loop-less c = search needs
 
 loop-again : tie.Need-loop-again Inv-loop μ-loop
-loop-again c = let a = c .before .before .before .before .before .args in
+loop-again c =
+    let a = c .before .before .before .before .before .args in
+    let loop′ = c .before .before .before .loop in
     let o = c .before .before .loop-test in
-    let l : c .before .before .before .loop .at < length (a .s .now) = omega arith in
-    let next = words-space (a .s .now) (c .before .before .before .loop .at) l (c .if1 .taken) ∙ ap (λ (m : ℕ). words (drop m (a .s .now))) (sym (add-one (c .before .before .before .loop .at))) in
-    let i = c .before .before .before .loop .inv in
-    (omega arith, i .1, i .2, i .3, i .4, i .5 ∙ ap (lemma (c .before .before .before .loop .j) (a .n) (c .before .before .before .loop .k)) next)
+    let l : loop′ .at < length (a .s .now) = omega arith in
+    let next = words-space (a .s .now) (loop′ .at) l (c .if1 .taken) ∙ ap (λ (m : ℕ). words (drop m (a .s .now))) (sym (add-one (loop′ .at))) in
+    let i = loop′ .inv in
+    (omega arith, i .1, i .2, i .3, i .4, i .5 ∙ ap (lemma (loop′ .j) (a .n) (loop′ .k)) next)
 
 end-of-requires : tie.Need-end-of-requires Inv-loop μ-loop
 end-of-requires c κs = search needs
@@ -102,27 +106,46 @@ refused-requires : tie.Need-refused-requires Inv-loop μ-loop
 refused-requires c κs = search needs
 
 returns : tie.Need-returns Inv-loop μ-loop
-returns c = c .refused .ensures ∙ lemma-44 (c .before .before .before .before .before .before .loop .j) (c .before .before .before .before .before .before .before .before .args .n) (c .before .before .before .before .before .before .loop .k) _ _ (c .before .if2 .taken) ∙ sym (turn (c .before .before))
+returns c =
+    let args′ = c .before .before .before .before .before .before .before .before .args in
+    let loop′ = c .before .before .before .before .before .before .loop in
+    let c2 = c .before .before in
+    c .refused .ensures ∙ lemma-44 (loop′ .j) (args′ .n) (loop′ .k) _ _ (c .before .if2 .taken) ∙ sym (turn (c2))
 
 bare-at-requires : tie.Need-bare-at-requires Inv-loop μ-loop
 bare-at-requires c κs = search needs
 
 item-of-requires : tie.Need-item-of-requires Inv-loop μ-loop
-item-of-requires c κs = let i = c .before .before .before .before .before .before .before .before .before .loop .inv in (i .3, i .4, ends (c .before .before .before .before .before) .1)
+item-of-requires c κs =
+    let loop′ = c .before .before .before .before .before .before .before .before .before .loop in
+    let c5 = c .before .before .before .before .before in
+    let i = loop′ .inv in (i .3, i .4, ends (c5) .1)
 
 refused-requires-2 : tie.Need-refused-requires-2 Inv-loop μ-loop
 refused-requires-2 c κs = search needs
 
 returns-2 : tie.Need-returns-2 Inv-loop μ-loop
-returns-2 c = c .refused2 .ensures ∙ lemma-43 (c .before .before .before .before .before .before .before .before .before .before .before .before .loop .j) (c .before .before .before .before .before .before .before .before .before .before .before .before .before .before .args .n) (c .before .before .before .before .before .before .before .before .before .before .before .before .loop .k) _ _ (c .before .before .before .before .before .before .before .if2 .left) (item (c .before .before) ∙ c .before .if3 .taken) ∙ sym (turn (c .before .before .before .before .before .before .before .before))
+returns-2 c =
+    let args′ = c .before .before .before .before .before .before .before .before .before .before .before .before .before .before .args in
+    let loop′ = c .before .before .before .before .before .before .before .before .before .before .before .before .loop in
+    let if2′ = c .before .before .before .before .before .before .before .if2 in
+    let c8 = c .before .before .before .before .before .before .before .before in
+    let c2 = c .before .before in
+    c .refused2 .ensures ∙ lemma-43 (loop′ .j) (args′ .n) (loop′ .k) _ _ (if2′ .left) (item (c2) ∙ c .before .if3 .taken) ∙ sym (turn (c8))
 
 shared-slice-read-signed : tie.Need-shared-slice-read-signed Inv-loop μ-loop
 shared-slice-read-signed c = search needs
 
 signed-requires : tie.Need-signed-requires Inv-loop μ-loop
-signed-requires c κs = let j = c .before .before .before .before .before .before .before .before .before .before .before .before .loop .j in
-    let w = slice (c .before .before .before .before .before .before .bare-at .result) (c .before .before .before .before .before .before .before .before .end-of .result) (c .before .before .before .before .before .before .before .before .before .before .before .before .before .before .args .s .now) in
-    omega (arith, c .before .before .item-of .ensures, item-most (j .labels) (j .names) (j .program .steps) (j .program .variables) w, c .before .before .before .before .before .before .before .before .before .before .before .before .loop .inv)
+signed-requires c κs =
+    let args′ = c .before .before .before .before .before .before .before .before .before .before .before .before .before .before .args in
+    let loop′ = c .before .before .before .before .before .before .before .before .before .before .before .before .loop in
+    let end-of′ = c .before .before .before .before .before .before .before .before .end-of in
+    let bare-at′ = c .before .before .before .before .before .before .bare-at in
+    let item-of′ = c .before .before .item-of in
+    let j = loop′ .j in
+    let w = slice (bare-at′ .result) (end-of′ .result) (args′ .s .now) in
+    omega (arith, item-of′ .ensures, item-most (j .labels) (j .names) (j .program .steps) (j .program .variables) w, loop′ .inv)
 
 mul-z : tie.Need-mul-z Inv-loop μ-loop
 mul-z c = search needs
@@ -143,18 +166,25 @@ loop-less-2 : tie.Need-loop-less-2 Inv-loop μ-loop
 loop-less-2 c = omega (arith, ends (c .before .before .before .before .before .before .before .before .before))
 
 loop-again-2 : tie.Need-loop-again-2 Inv-loop μ-loop
-loop-again-2 c = let o = c .before .before .before .before .before .before .before .before .before .before .before .before .before in
+loop-again-2 c =
     let a = c .before .before .before .before .before .before .before .before .before .before .before .before .before .before .before .args in
-    let e = ends (c .before .before .before .before .before .before .before .before .before) in
+    let end-of′ = c .before .before .before .before .before .before .before .before .before .end-of in
+    let if2′ = c .before .before .before .before .before .before .before .before .if2 in
+    let item-of′ = c .before .before .before .item-of in
+    let if3′ = c .before .before .if3 in
+    let o = c .before .before .before .before .before .before .before .before .before .before .before .before .before in
+    let c9 = c .before .before .before .before .before .before .before .before .before in
+    let c3 = c .before .before .before in
+    let e = ends (c9) in
     let i = o .loop .inv in
-    let rest = words (drop (c .before .before .before .before .before .before .before .before .before .end-of .result) (a .s .now)) in (
+    let rest = words (drop (end-of′ .result) (a .s .now)) in (
       e .1,
-      omega (arith, c .before .before .before .before .before .before .before .before .if2 .left),
+      omega (arith, if2′ .left),
       i .2,
       i .3,
       i .4,
-      turn (c .before .before .before .before .before .before .before .before .before)
-          ∙ lemma-on (o .loop .j) (a .n) (o .loop .k) _ _ (c .before .before .before .item-of .result) (c .before .before .before .before .before .before .before .before .if2 .left) (item (c .before .before .before)) (c .before .before .if3 .left)
+      turn (c9)
+          ∙ lemma-on (o .loop .j) (a .n) (o .loop .k) _ _ (item-of′ .result) (if2′ .left) (item (c3)) (if3′ .left)
           ∙ ap (λ (z : ℤ). lemma (withItem (o .loop .j) (o .loop .k) z) (a .n) (o .loop .k + 1) rest) (sym (stored c)),
     )
 
@@ -162,10 +192,13 @@ refused-requires-3 : tie.Need-refused-requires-3 Inv-loop μ-loop
 refused-requires-3 c κs = search needs
 
 returns-3 : tie.Need-returns-3 Inv-loop μ-loop
-returns-3 c = let o = c .before .before .before .loop .inv in
-    let none = words-end (c .before .before .before .before .before .args .s .now) (c .before .before .before .loop .at) (omega arith) in
-    c .refused3 .ensures ∙ lemma-42 (c .before .before .before .loop .j) (c .before .before .before .before .before .args .n)
-    ∙ sym (o .5 ∙ ap (lemma (c .before .before .before .loop .j) (c .before .before .before .before .before .args .n) (c .before .before .before .loop .k)) none ∙ ap (λ (k : ℕ). lemma (c .before .before .before .loop .j) (c .before .before .before .before .before .args .n) k []) (c .before .if4 .taken))
+returns-3 c =
+    let args′ = c .before .before .before .before .before .args in
+    let loop′ = c .before .before .before .loop in
+    let o = loop′ .inv in
+    let none = words-end (args′ .s .now) (loop′ .at) (omega arith) in
+    c .refused3 .ensures ∙ lemma-42 (loop′ .j) (args′ .n)
+    ∙ sym (o .5 ∙ ap (lemma (loop′ .j) (args′ .n) (loop′ .k)) none ∙ ap (λ (k : ℕ). lemma (loop′ .j) (args′ .n) k []) (c .before .if4 .taken))
 
 cast-j : tie.Need-cast-j Inv-loop μ-loop
 cast-j c = search needs
@@ -177,9 +210,12 @@ add-j : tie.Need-add-j Inv-loop μ-loop
 add-j c = search needs
 
 returns-4 : tie.Need-returns-4 Inv-loop μ-loop
-returns-4 c = let none = words-end (c .before .before .before .before .args .s .now) (c .before .before .loop .at) (omega arith) in
-    lemma-done (c .before .before .loop .j) (c .before .before .before .before .args .n) (c .before .before .loop .k) (c .if4 .left)
-    ∙ sym (c .before .before .loop .inv .5 ∙ ap (lemma (c .before .before .loop .j) (c .before .before .before .before .args .n) (c .before .before .loop .k)) none)
+returns-4 c =
+    let args′ = c .before .before .before .before .args in
+    let loop′ = c .before .before .loop in
+    let none = words-end (args′ .s .now) (loop′ .at) (omega arith) in
+    lemma-done (loop′ .j) (args′ .n) (loop′ .k) (c .if4 .left)
+    ∙ sym (loop′ .inv .5 ∙ ap (lemma (loop′ .j) (args′ .n) (loop′ .k)) none)
 
 pub lemma-of-spec : {M : Type 1} → statement M
 lemma-of-spec =

@@ -29,9 +29,13 @@ enum-told-2 : tie.Need-enum-told-2 Inv-loop μ-loop
 enum-told-2 c = search needs
 
 returns : tie.Need-returns Inv-loop μ-loop
-returns c = let d = c .before .before .before .before .before .before .before .args .d in
-    let told = ap (λ (v : Verdict). linked v (c .before .before .before .link-step .result .program)) (c .enum-told2 .given .1) in
-    let here = link-next d (c .before .before .before .before .before .loop .k) (c .before .before .before .before .before .loop .p) (c .before .before .before .before .before .loop .inv .1) ∙ sym (c .before .before .before .link-step .ensures) ∙ told in
+returns c =
+    let args′ = c .before .before .before .before .before .before .before .args in
+    let loop′ = c .before .before .before .before .before .loop in
+    let link-step′ = c .before .before .before .link-step in
+    let d = args′ .d in
+    let told = ap (λ (v : Verdict). linked v (link-step′ .result .program)) (c .enum-told2 .given .1) in
+    let here = link-next d (loop′ .k) (loop′ .p) (loop′ .inv .1) ∙ sym (link-step′ .ensures) ∙ told in
     told ∙ sym (link-stays d _ (d .program .steps) (c .enum-told2 .given .0 .0) _ here (omega arith))
 
 add-k : tie.Need-add-k Inv-loop μ-loop
@@ -41,8 +45,12 @@ loop-less : tie.Need-loop-less Inv-loop μ-loop
 loop-less c = search needs
 
 loop-again : tie.Need-loop-again Inv-loop μ-loop
-loop-again c = let told = ap (λ (v : Verdict). linked v (c .before .before .before .link-step .result .program)) (c .enum-told .given .1) in
-    (omega arith, link-next (c .before .before .before .before .before .before .before .args .d) (c .before .before .before .before .before .loop .k) (c .before .before .before .before .before .loop .p) (c .before .before .before .before .before .loop .inv .1) ∙ sym (c .before .before .before .link-step .ensures) ∙ told)
+loop-again c =
+    let args′ = c .before .before .before .before .before .before .before .args in
+    let loop′ = c .before .before .before .before .before .loop in
+    let link-step′ = c .before .before .before .link-step in
+    let told = ap (λ (v : Verdict). linked v (link-step′ .result .program)) (c .enum-told .given .1) in
+    (omega arith, link-next (args′ .d) (loop′ .k) (loop′ .p) (loop′ .inv .1) ∙ sym (link-step′ .ensures) ∙ told)
 
 returns-2 : tie.Need-returns-2 Inv-loop μ-loop
 returns-2 c = let e : c .before .loop .k ≡ c .before .before .before .args .d .program .steps = omega arith in

@@ -33,15 +33,25 @@ refusal-requires c κs = search needs
 
 returns : tie.Need-returns
 unfolding aim
-returns c = let p = c .before .before .before .before .before .before .before .before .before .before .before .before .args .p in
+returns c =
+    let args′ = c .before .before .before .before .before .before .before .before .before .before .before .before .args in
+    let aim′ = c .before .before .before .before .before .aim in
+    let enum-told′ = c .before .before .before .enum-told in
+    let number′ = c .before .before .number in
+    let p = args′ .p in
     ap (λ (v : Verdict). linked v p) (c .refusal .ensures)
-    ∙ other-no p (c .before .before .before .before .before .before .before .before .before .before .before .before .args .k) _ (c .before .before .before .before .before .aim .result) _ (c .before .before .before .before .before .aim .ensures) _ _ (c .before .before .before .enum-told .given .1) (c .before .before .number .ensures)
+    ∙ other-no p (args′ .k) _ (aim′ .result) _ (aim′ .ensures) _ _ (enum-told′ .given .1) (number′ .ensures)
 
 cast-q : tie.Need-cast-q
-cast-q c = let d = c .before .before .before .before .before .before .before .before .before .before .args .t1 in
-    let k = c .before .before .before .before .before .before .before .before .before .before .args .k in
+cast-q c =
+    let args′ = c .before .before .before .before .before .before .before .before .before .before .args in
+    let pre′ = c .before .before .before .before .before .before .before .before .before .before .pre in
+    let aim′ = c .before .before .before .aim in
+    let t′ = c .before .t in
+    let d = args′ .t1 in
+    let k = args′ .k in
     let w = slice (k * 4) (k * 4 + 4) (d .other) in
-    omega (arith, target-is (d .program .process) (d .labels) (d .program .steps) k w (c .before .t .given .0 .0) (sym (c .before .before .before .aim .ensures) ∙ c .before .t .given .1), c .before .before .before .before .before .before .before .before .before .before .pre)
+    omega (arith, target-is (d .program .process) (d .labels) (d .program .steps) k w (t′ .given .0 .0) (sym (aim′ .ensures) ∙ t′ .given .1), pre′)
 
 mul-q : tie.Need-mul-q
 mul-q c = search needs
@@ -51,7 +61,11 @@ element-write-q c = search needs
 
 returns-2 : tie.Need-returns-2
 unfolding aim
-returns-2 c = other-step (c .before .before .before .before .before .before .before .before .before .before .args .p) (c .before .before .before .before .before .before .before .before .before .before .args .k) _ (c .before .before .before .aim .result) _ (c .before .before .before .aim .ensures) (c .before .t .given .0 .0) (c .before .t .given .1)
+returns-2 c =
+    let args′ = c .before .before .before .before .before .before .before .before .before .before .args in
+    let aim′ = c .before .before .before .aim in
+    let t′ = c .before .t in
+    other-step (args′ .p) (args′ .k) _ (aim′ .result) _ (aim′ .ensures) (t′ .given .0 .0) (t′ .given .1)
 
 pub link-other-spec : {M : Type 1} → statement M
 link-other-spec =

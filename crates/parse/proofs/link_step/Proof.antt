@@ -29,15 +29,21 @@ link-other-requires c κs = search needs
 
 returns-2 : tie.Need-returns-2
 unfolding linkStep
-returns-2 c = c .link-other .ensures
+returns-2 c =
+    let link-to′ = c .before .before .before .before .before .before .link-to in
+    let enum-told′ = c .before .before .before .before .enum-told in
+    c .link-other .ensures
     ∙ picked-link _ _ _ (eq-eqb _ _ (c .before .if1 .taken))
-    ∙ link-on (c .before .before .before .before .before .before .link-to .result) _ _ (c .before .before .before .before .before .before .link-to .ensures) (c .before .before .before .before .enum-told .given .1)
+    ∙ link-on (link-to′ .result) _ _ (link-to′ .ensures) (enum-told′ .given .1)
 
 returns-3 : tie.Need-returns-3
 unfolding linkStep
-returns-3 c = ap (λ (v : Verdict). linked v (c .before .before .before .before .before .link-to .result .program)) (c .before .before .before .enum-told .given .1)
+returns-3 c =
+    let link-to′ = c .before .before .before .before .before .link-to in
+    let enum-told′ = c .before .before .before .enum-told in
+    ap (λ (v : Verdict). linked v (link-to′ .result .program)) (enum-told′ .given .1)
     ∙ passed-link _ _ _ (ne-eqb _ _ (c .if1 .left))
-    ∙ link-on (c .before .before .before .before .before .link-to .result) _ _ (c .before .before .before .before .before .link-to .ensures) (c .before .before .before .enum-told .given .1)
+    ∙ link-on (link-to′ .result) _ _ (link-to′ .ensures) (enum-told′ .given .1)
 
 pub link-step-spec : {M : Type 1} → statement M
 link-step-spec =

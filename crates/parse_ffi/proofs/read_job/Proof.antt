@@ -22,10 +22,15 @@ flat-requires-2 : tie.Need-flat-requires-2
 flat-requires-2 c κs = search needs
 
 returns : tie.Need-returns
-returns c = c .flat .ensures ∙ ap (λ (v : Verdict). answered v (c .before .before .before .read .result .job)) (sym (c .before .enum-told .given .1)) ∙ ap told (c .before .before .before .read .ensures)
+returns c =
+    let read′ = c .before .before .before .read in
+    c .flat .ensures ∙ ap (λ (v : Verdict). answered v (read′ .result .job)) (sym (c .before .enum-told .given .1)) ∙ ap told (read′ .ensures)
 
 returns-2 : tie.Need-returns-2
-returns-2 c = c .flat2 .ensures ∙ ap (λ (v : Verdict). answered v (c .before .before .before .before .read .result .job)) (sym (c .before .before .v .given .1)) ∙ ap told (c .before .before .before .before .read .ensures)
+returns-2 c =
+    let read′ = c .before .before .before .before .read in
+    let v′ = c .before .before .v in
+    c .flat2 .ensures ∙ ap (λ (v : Verdict). answered v (read′ .result .job)) (sym (v′ .given .1)) ∙ ap told (read′ .ensures)
 
 pub read-job-spec : {M : Type 1} → statement M
 read-job-spec =

@@ -15,14 +15,18 @@ mentioned-requires : tie.Need-mentioned-requires
 mentioned-requires c κs = search needs
 
 entered-requires : tie.Need-entered-requires
-entered-requires c κs = let a = c .before .before .before .before .args in
+entered-requires c κs =
+    let a = c .before .before .before .before .args in
+    let pre′ = c .before .before .before .before .pre in
     let w = slice (a .p .variable) (a .p .equals) (a .s .now) in
-    rw (c .mentioned .ensures) (omega (arith, mention-steps (a .d) w (lookup (a .d .names) (a .d .program .variables) w), c .before .before .before .before .pre))
+    rw (c .mentioned .ensures) (omega (arith, mention-steps (a .d) w (lookup (a .d .names) (a .d .program .variables) w), pre′))
 
 returns : tie.Need-returns
 unfolding addStep
-returns c = let a = c .before .before .before .before .before .args in
-    c .entered .ensures ∙ ap (λ (e : Draft). enter e (a .s .now) (a .p) (a .n)) (c .before .mentioned .ensures) ∙ rw (le-leb 3 (a .p .kind) (c .before .before .if1 .taken))
+returns c =
+    let a = c .before .before .before .before .before .args in
+    let if1′ = c .before .before .if1 in
+    c .entered .ensures ∙ ap (λ (e : Draft). enter e (a .s .now) (a .p) (a .n)) (c .before .mentioned .ensures) ∙ rw (le-leb 3 (a .p .kind) (if1′ .taken))
 
 entered-requires-2 : tie.Need-entered-requires-2
 entered-requires-2 c κs = search needs

@@ -42,7 +42,12 @@ add-q c = search needs
 
 returns : tie.Need-returns
 unfolding enter
-returns c = rw (c .before .before .before .before .before .before .before .put .ensures, c .before .before .before .before .before .put2 .ensures, c .before .before .put3 .ensures, c .before .before .before .other-end .ensures, c .process-of .ensures, c .before .byte-at .ensures)
+returns c =
+    let put′ = c .before .before .before .before .before .before .before .put in
+    let put2′ = c .before .before .before .before .before .put2 in
+    let other-end′ = c .before .before .before .other-end in
+    let put3′ = c .before .before .put3 in
+    rw (put′ .ensures, put2′ .ensures, put3′ .ensures, other-end′ .ensures, c .process-of .ensures, c .before .byte-at .ensures)
 
 pub entered-spec : {M : Type 1} → statement M
 entered-spec =

@@ -18,13 +18,19 @@ number-requires : tie.Need-number-requires
 number-requires c κs = search needs
 
 returns : tie.Need-returns
-returns c = no-line (c .before .before .before .line .result) _ (c .before .before .before .before .before .args .d) _ (c .before .before .before .line .ensures) _ _ (c .before .enum-told2 .given .1) (c .number .ensures)
+returns c =
+    let args′ = c .before .before .before .before .before .args in
+    let line′ = c .before .before .before .line in
+    no-line (line′ .result) _ (args′ .d) _ (line′ .ensures) _ _ (c .before .enum-told2 .given .1) (c .number .ensures)
 
 program-line-requires : tie.Need-program-line-requires
 program-line-requires c κs = search needs
 
 returns-2 : tie.Need-returns-2
-returns-2 c = c .program-line .ensures ∙ is-whole (c .before .before .before .line .result) _ (c .before .before .before .before .before .args .d) _ (c .before .before .before .line .ensures) (c .before .enum-told .given .1)
+returns-2 c =
+    let args′ = c .before .before .before .before .before .args in
+    let line′ = c .before .before .before .line in
+    c .program-line .ensures ∙ is-whole (line′ .result) _ (args′ .d) _ (line′ .ensures) (c .before .enum-told .given .1)
 
 pub line-of-spec : {M : Type 1} → statement M
 line-of-spec =

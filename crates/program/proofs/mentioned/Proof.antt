@@ -15,12 +15,18 @@ enum-known-f : tie.Need-enum-known-f
 enum-known-f c = search needs
 
 add-p : tie.Need-add-p
-add-p c = let a = c .before .before .before .before .before .before .before .before .before .args in
-    omega (arith, lookup-below (a .d .names) (a .d .program .variables) (slice (a .from) (a .to) (a .s .now)) (c .before .f .given .0 .0) (sym (c .before .before .before .find .ensures) ∙ c .before .f .given .1))
+add-p c =
+    let a = c .before .before .before .before .before .before .before .before .before .args in
+    let find′ = c .before .before .before .find in
+    let f′ = c .before .f in
+    omega (arith, lookup-below (a .d .names) (a .d .program .variables) (slice (a .from) (a .to) (a .s .now)) (f′ .given .0 .0) (sym (find′ .ensures) ∙ f′ .given .1))
 
 cast-p : tie.Need-cast-p
-cast-p c = let a = c .before .before .before .before .before .before .before .before .before .args in
-    omega (arith, lookup-below (a .d .names) (a .d .program .variables) (slice (a .from) (a .to) (a .s .now)) (c .before .f .given .0 .0) (sym (c .before .before .before .find .ensures) ∙ c .before .f .given .1))
+cast-p c =
+    let a = c .before .before .before .before .before .before .before .before .before .args in
+    let find′ = c .before .before .before .find in
+    let f′ = c .before .f in
+    omega (arith, lookup-below (a .d .names) (a .d .program .variables) (slice (a .from) (a .to) (a .s .now)) (f′ .given .0 .0) (sym (find′ .ensures) ∙ f′ .given .1))
 
 element-write-p : tie.Need-element-write-p
 element-write-p c = search needs
@@ -45,12 +51,18 @@ element-write-p-2 c = search needs
 
 returns : tie.Need-returns
 unfolding mentionAt
-returns c = let a = c .before .before .before .before .before .before .before .before .before .args in ap (mentionAt (a .d) (slice (a .from) (a .to) (a .s .now))) (sym (c .before .f .given .1) ∙ c .before .before .before .find .ensures)
+returns c =
+    let args′ = c .before .before .before .before .before .before .before .before .before .args in
+    let find′ = c .before .before .before .find in
+    let a = args′ in ap (mentionAt (a .d) (slice (a .from) (a .to) (a .s .now))) (sym (c .before .f .given .1) ∙ find′ .ensures)
 
 returns-2 : tie.Need-returns-2
 unfolding mentionAt
-returns-2 c = let a = c .before .before .before .before .before .before .before .before .before .before .args in
-    rw (c .put .ensures) (ap (mentionAt (a .d) (slice (a .from) (a .to) (a .s .now))) (sym (c .before .before .enum-told .given .1) ∙ c .before .before .before .before .find .ensures))
+returns-2 c =
+    let a = c .before .before .before .before .before .before .before .before .before .before .args in
+    let find′ = c .before .before .before .before .find in
+    let enum-told′ = c .before .before .enum-told in
+    rw (c .put .ensures) (ap (mentionAt (a .d) (slice (a .from) (a .to) (a .s .now))) (sym (enum-told′ .given .1) ∙ find′ .ensures))
 
 pub mentioned-spec : {M : Type 1} → statement M
 mentioned-spec =

@@ -52,10 +52,15 @@ refused-requires-3 : tie.Need-refused-requires-3
 refused-requires-3 c κs = search needs
 
 returns-3 : tie.Need-returns-3
-returns-3 c = let text = c .before .before .before .before .before .before .before .before .before .before .args .text .now in
+returns-3 c =
+    let args′ = c .before .before .before .before .before .before .before .before .before .before .args in
+    let end-of′ = c .before .before .before .before .before .before .end-of in
+    let line′ = c .before .before .before .before .line in
+    let enum-told2′ = c .before .before .enum-told2 in
+    let text = args′ .text .now in
     c .refused3 .ensures
-    ∙ no-line (c .before .before .before .before .line .result) _ _ (c .before .before .before .before .line .ensures) _ _ (c .before .before .enum-told2 .given .1) (c .before .number .ensures)
-    ∙ from-line-1 text (c .before .before .before .before .before .before .end-of .result) (omega arith) (omega arith) (c .before .before .before .before .before .before .end-of .ensures)
+    ∙ no-line (line′ .result) _ _ (line′ .ensures) _ _ (enum-told2′ .given .1) (c .before .number .ensures)
+    ∙ from-line-1 text (end-of′ .result) (omega arith) (omega arith) (end-of′ .ensures)
 
 first-line-requires : tie.Need-first-line-requires
 first-line-requires c κs = search needs
@@ -73,31 +78,54 @@ refused-requires-4 : tie.Need-refused-requires-4
 refused-requires-4 c κs = search needs
 
 returns-4 : tie.Need-returns-4
-returns-4 c = let text = c .before .before .before .before .before .before .before .before .before .before .before .before .before .args .text .now in
+returns-4 c =
+    let args′ = c .before .before .before .before .before .before .before .before .before .before .before .before .before .args in
+    let end-of′ = c .before .before .before .before .before .before .before .before .before .end-of in
+    let line′ = c .before .before .before .before .before .before .before .line in
+    let enum-told′ = c .before .before .before .before .before .enum-told in
+    let first-line′ = c .before .before .before .before .first-line in
+    let enum-told3′ = c .before .before .enum-told3 in
+    let text = args′ .text .now in
     c .refused4 .ensures
-    ∙ is-wrong (c .before .before .before .before .first-line .result) _ _ (c .before .before .before .before .first-line .ensures) _ _ (c .before .before .enum-told3 .given .1) (c .before .wrong .ensures)
-    ∙ is-whole (c .before .before .before .before .before .before .before .line .result) _ _ (c .before .before .before .before .before .before .before .line .ensures) (c .before .before .before .before .before .enum-told .given .1)
-    ∙ from-line-1 text (c .before .before .before .before .before .before .before .before .before .end-of .result) (omega arith) (omega arith) (c .before .before .before .before .before .before .before .before .before .end-of .ensures)
+    ∙ is-wrong (first-line′ .result) _ _ (first-line′ .ensures) _ _ (enum-told3′ .given .1) (c .before .wrong .ensures)
+    ∙ is-whole (line′ .result) _ _ (line′ .ensures) (enum-told′ .given .1)
+    ∙ from-line-1 text (end-of′ .result) (omega arith) (omega arith) (end-of′ .ensures)
 
 add-program-lines : tie.Need-add-program-lines
-add-program-lines c = omega (arith, line-within (c .before .before .before .before .before .before .before .before .before .before .before .before .args .text .now) 0 (c .before .before .before .before .before .before .before .before .end-of .result) (omega arith) (c .before .before .before .before .before .before .before .before .end-of .ensures))
+add-program-lines c =
+    let args′ = c .before .before .before .before .before .before .before .before .before .before .before .before .args in
+    let end-of′ = c .before .before .before .before .before .before .before .before .end-of in
+    omega (arith, line-within (args′ .text .now) 0 (end-of′ .result) (omega arith) (end-of′ .ensures))
 
 blank-requires : tie.Need-blank-requires
 blank-requires c κs = search needs
 
 program-lines-requires : tie.Need-program-lines-requires
-program-lines-requires c κs = let e = line-within (c .before .before .before .before .before .before .before .before .before .before .before .before .before .args .text .now) 0 (c .before .before .before .before .before .before .before .before .before .end-of .result) (omega arith) (c .before .before .before .before .before .before .before .before .before .end-of .ensures) in
-    let b = blank-within (c .before .before .l .given .0 .0) in
+program-lines-requires c κs =
+    let args′ = c .before .before .before .before .before .before .before .before .before .before .before .before .before .args in
+    let end-of′ = c .before .before .before .before .before .before .before .before .before .end-of in
+    let l′ = c .before .before .l in
+    let e = line-within (args′ .text .now) 0 (end-of′ .result) (omega arith) (end-of′ .ensures) in
+    let b = blank-within (l′ .given .0 .0) in
     (omega arith, omega arith, omega arith, rw (c .blank .ensures) (b .0), rw (c .blank .ensures) (b .1))
 
 returns-5 : tie.Need-returns-5
-returns-5 c = let text = c .before .before .before .before .before .before .before .before .before .before .before .before .before .before .args .text .now in
-    let e = c .before .before .before .before .before .before .before .before .before .before .end-of .result in
+returns-5 c =
+    let args′ = c .before .before .before .before .before .before .before .before .before .before .before .before .before .before .args in
+    let if1′ = c .before .before .before .before .before .before .before .before .before .before .before .before .if1 in
+    let if2′ = c .before .before .before .before .before .before .before .before .before .before .before .if2 in
+    let end-of′ = c .before .before .before .before .before .before .before .before .before .before .end-of in
+    let line′ = c .before .before .before .before .before .before .before .before .line in
+    let enum-told′ = c .before .before .before .before .before .before .enum-told in
+    let first-line′ = c .before .before .before .before .before .first-line in
+    let l′ = c .before .before .before .l in
+    let text = args′ .text .now in
+    let e = end-of′ .result in
     c .program-lines .ensures
     ∙ ap (λ (d : Draft). programFrom d (e + 1) 1 (lines (drop (e + 1) text))) (c .before .blank .ensures)
-    ∙ is-bound (c .before .before .before .before .before .first-line .result) _ _ (c .before .before .before .before .before .first-line .ensures) (c .before .before .before .l .given .0 .0) (c .before .before .before .l .given .1)
-    ∙ is-whole (c .before .before .before .before .before .before .before .before .line .result) _ _ (c .before .before .before .before .before .before .before .before .line .ensures) (c .before .before .before .before .before .before .enum-told .given .1)
-    ∙ from-line-1 text e (omega (arith, c .before .before .before .before .before .before .before .before .before .before .before .before .if1 .left)) (c .before .before .before .before .before .before .before .before .before .before .before .if2 .left) (c .before .before .before .before .before .before .before .before .before .before .end-of .ensures)
+    ∙ is-bound (first-line′ .result) _ _ (first-line′ .ensures) (l′ .given .0 .0) (l′ .given .1)
+    ∙ is-whole (line′ .result) _ _ (line′ .ensures) (enum-told′ .given .1)
+    ∙ from-line-1 text e (omega (arith, if1′ .left)) (if2′ .left) (end-of′ .ensures)
 
 pub program-spec : {M : Type 1} → statement M
 program-spec =

@@ -24,7 +24,10 @@ follows-requires c κs = search needs
 
 returns-2 : tie.Need-returns-2
 unfolding programLine isComment
-returns-2 c = picked _ _ _ (sym (c .before .follows .ensures) ∙ c .if2 .taken) ∙ passed _ _ _ (sym (c .before .before .before .before .is-lemmas .ensures) ∙ c .before .before .before .if1 .left)
+returns-2 c =
+    let is-lemmas′ = c .before .before .before .before .is-lemmas in
+    let if1′ = c .before .before .before .if1 in
+    picked _ _ _ (sym (c .before .follows .ensures) ∙ c .if2 .taken) ∙ passed _ _ _ (sym (is-lemmas′ .ensures) ∙ if1′ .left)
 
 returns-3 : tie.Need-returns-3
 unfolding programLine isComment
@@ -46,24 +49,39 @@ number-requires c κs = search needs
 
 returns-4 : tie.Need-returns-4
 unfolding programLine isComment
-returns-4 c = let a = c .before .before .before .before .before .before .before .before .before .before .before .before .before .before .args in
-    let l = sym (c .before .before .before .step-line .ensures) ∙ c .before .enum-told .given .1 in
-    no-step (a .t1) (a .s .now) (a .n) _ _ _ l (c .number .ensures ∙ ap numberOf (c .before .before .before .step-line .ensures))
-    ∙ passed _ _ _ (lt-leb _ _ (c .before .before .before .before .before .before .before .if3 .left))
-    ∙ passed _ _ _ (sym (c .before .before .before .before .before .before .before .before .before .follows .ensures) ∙ c .before .before .before .before .before .before .before .before .if2 .left)
-    ∙ passed _ _ _ (sym (c .before .before .before .before .before .before .before .before .before .before .before .before .is-lemmas .ensures) ∙ c .before .before .before .before .before .before .before .before .before .before .before .if1 .left)
+returns-4 c =
+    let a = c .before .before .before .before .before .before .before .before .before .before .before .before .before .before .args in
+    let is-lemmas′ = c .before .before .before .before .before .before .before .before .before .before .before .before .is-lemmas in
+    let if1′ = c .before .before .before .before .before .before .before .before .before .before .before .if1 in
+    let follows′ = c .before .before .before .before .before .before .before .before .before .follows in
+    let if2′ = c .before .before .before .before .before .before .before .before .if2 in
+    let if3′ = c .before .before .before .before .before .before .before .if3 in
+    let step-line′ = c .before .before .before .step-line in
+    let l = sym (step-line′ .ensures) ∙ c .before .enum-told .given .1 in
+    no-step (a .t1) (a .s .now) (a .n) _ _ _ l (c .number .ensures ∙ ap numberOf (step-line′ .ensures))
+    ∙ passed _ _ _ (lt-leb _ _ (if3′ .left))
+    ∙ passed _ _ _ (sym (follows′ .ensures) ∙ if2′ .left)
+    ∙ passed _ _ _ (sym (is-lemmas′ .ensures) ∙ if1′ .left)
 
 add-step-requires : tie.Need-add-step-requires
 add-step-requires c κs = search needs
 
 returns-5 : tie.Need-returns-5
 unfolding programLine isComment
-returns-5 c = let a = c .before .before .before .before .before .before .before .before .before .before .before .before .before .before .before .args in
+returns-5 c =
+    let a = c .before .before .before .before .before .before .before .before .before .before .before .before .before .before .before .args in
+    let is-lemmas′ = c .before .before .before .before .before .before .before .before .before .before .before .before .before .is-lemmas in
+    let if1′ = c .before .before .before .before .before .before .before .before .before .before .before .before .if1 in
+    let follows′ = c .before .before .before .before .before .before .before .before .before .before .follows in
+    let if2′ = c .before .before .before .before .before .before .before .before .before .if2 in
+    let if3′ = c .before .before .before .before .before .before .before .before .if3 in
+    let step-line′ = c .before .before .before .before .step-line in
+    let l′ = c .before .before .l in
     ap (λ (d : Draft). lined More d) (c .add-step .ensures)
-    ∙ is-step (a .t1) (a .s .now) (a .n) _ (c .before .before .l .given .0 .0) (sym (c .before .before .before .before .step-line .ensures) ∙ c .before .before .l .given .1)
-    ∙ passed _ _ _ (lt-leb _ _ (c .before .before .before .before .before .before .before .before .if3 .left))
-    ∙ passed _ _ _ (sym (c .before .before .before .before .before .before .before .before .before .before .follows .ensures) ∙ c .before .before .before .before .before .before .before .before .before .if2 .left)
-    ∙ passed _ _ _ (sym (c .before .before .before .before .before .before .before .before .before .before .before .before .before .is-lemmas .ensures) ∙ c .before .before .before .before .before .before .before .before .before .before .before .before .if1 .left)
+    ∙ is-step (a .t1) (a .s .now) (a .n) _ (l′ .given .0 .0) (sym (step-line′ .ensures) ∙ l′ .given .1)
+    ∙ passed _ _ _ (lt-leb _ _ (if3′ .left))
+    ∙ passed _ _ _ (sym (follows′ .ensures) ∙ if2′ .left)
+    ∙ passed _ _ _ (sym (is-lemmas′ .ensures) ∙ if1′ .left)
 
 pub program-line-spec : {M : Type 1} → statement M
 program-line-spec =

@@ -35,11 +35,12 @@ turn : (c : tie.After-line-of Inv-loop μ-loop) →
     program (o .before .before .args .start) (o .before .before .args .from) 1 (lines (drop (o .before .before .args .from) text))
     ≡ follow (c .line-of .result .next) (c .line-of .result .draft) (o .loop .n + 1) (e + 1) λ x. program x (e + 1) (o .loop .n + 1) (lines (drop (e + 1) text))
 turn c =
+    let end-of′ = c .before .before .end-of in
     let o = c .before .before .before .before in
     let text = o .before .before .args .text .now in
     let h : o .loop .at < length text = omega arith in
     o .loop .inv .3
-    ∙ program-turn text (o .loop .at) (c .before .before .end-of .result) h (c .before .before .end-of .ensures) (o .loop .d) (o .loop .n) (c .line-of .result) (c .line-of .ensures)
+    ∙ program-turn text (o .loop .at) (end-of′ .result) h (end-of′ .ensures) (o .loop .d) (o .loop .n) (c .line-of .result) (c .line-of .ensures)
 
 kept : (c : tie.After-line-of Inv-loop μ-loop) → Within (c .line-of .result .draft)
 kept c =
@@ -92,8 +93,13 @@ loop-less : tie.Need-loop-less Inv-loop μ-loop
 loop-less c = omega (arith, ends (c .before .before .before .before .before))
 
 loop-again : tie.Need-loop-again Inv-loop μ-loop
-loop-again c = let e = ends (c .before .before .before .before .before) in
-    (omega (arith, e, c .before .before .before .before .before .before .before .loop .inv), omega (arith, e, c .before .before .before .before .before .before .before .before .before .pre), kept (c .before .before .before), turn (c .before .before .before) ∙ follow-more _ _ _ _ _ (c .enum-told .given .1))
+loop-again c =
+    let pre′ = c .before .before .before .before .before .before .before .before .before .pre in
+    let loop′ = c .before .before .before .before .before .before .before .loop in
+    let c5 = c .before .before .before .before .before in
+    let c3 = c .before .before .before in
+    let e = ends (c5) in
+    (omega (arith, e, loop′ .inv), omega (arith, e, pre′), kept (c3), turn (c3) ∙ follow-more _ _ _ _ _ (c .enum-told .given .1))
 
 add-refused : tie.Need-add-refused Inv-loop μ-loop
 add-refused c = search needs
@@ -102,9 +108,12 @@ refused-requires : tie.Need-refused-requires Inv-loop μ-loop
 refused-requires c κs = search needs
 
 returns-2 : tie.Need-returns-2 Inv-loop μ-loop
-returns-2 c = let o = c .before .before in
-    let none = lines-out (c .before .before .before .before .args .text .now) (o .loop .at) (omega arith) in
-    c .refused .ensures ∙ sym (o .loop .inv .3 ∙ ap (program (o .loop .d) (o .loop .at) (o .loop .n)) none ∙ program-none (o .loop .d) (o .loop .at) (o .loop .n))
+returns-2 c =
+    let args′ = c .before .before .before .before .args in
+    let o = c .before .before in
+    let none = lines-out (args′ .text .now) (o .loop .at) (omega arith) in
+    c .refused .ensures
+    ∙ sym (o .loop .inv .3 ∙ ap (program (o .loop .d) (o .loop .at) (o .loop .n)) none ∙ program-none (o .loop .d) (o .loop .at) (o .loop .n))
 
 pub program-lines-spec : {M : Type 1} → statement M
 program-lines-spec =

@@ -23,7 +23,9 @@ refused-requires-2 c κs = search needs
 
 returns : tie.Need-returns
 unfolding follow
-returns c = let a = c .before .before .before .args in c .refused .ensures ∙ ap (λ (x : Next). stop x (a .d) (a .n) (a .at)) (sym (c .before .enum-told .given .1))
+returns c =
+    let args′ = c .before .before .before .args in
+    let a = args′ in c .refused .ensures ∙ ap (λ (x : Next). stop x (a .d) (a .n) (a .at)) (sym (c .before .enum-told .given .1))
 
 returns-2 : tie.Need-returns-2
 unfolding follow
@@ -31,7 +33,10 @@ returns-2 c = let a = c .before .before .args in ap (λ (x : Next). stop x (a .d
 
 returns-3 : tie.Need-returns-3
 unfolding follow
-returns-3 c = let a = c .before .before .before .before .args in c .refused2 .ensures ∙ ap (λ (x : Next). stop x (a .d) (a .n) (a .at)) (sym (c .before .before .next .given .1))
+returns-3 c =
+    let args′ = c .before .before .before .before .args in
+    let next′ = c .before .before .next in
+    let a = args′ in c .refused2 .ensures ∙ ap (λ (x : Next). stop x (a .d) (a .n) (a .at)) (sym (next′ .given .1))
 
 pub stopped-spec : {M : Type 1} → statement M
 stopped-spec =

@@ -55,7 +55,10 @@ names-holds : tie.Need-names-holds Inv-loop μ-loop Inv-names μ-names
 names-holds c = (omega arith, first-zero (entryIs (c .before .before .args .names .now) _))
 
 loop-holds : tie.Need-loop-holds Inv-loop μ-loop Inv-names μ-names
-loop-holds c = let a = c .before .before .before .before .args in (omega arith, c .if1 .left, c .before .names .inv .1, all-none (Same (a .names .now) (slice (a .from) (a .to) (a .s .now)) (c .before .names .i)))
+loop-holds c =
+    let args′ = c .before .before .before .before .args in
+    let names′ = c .before .names in
+    let a = args′ in (omega arith, c .if1 .left, names′ .inv .1, all-none (Same (a .names .now) (slice (a .from) (a .to) (a .s .now)) (names′ .i)))
 
 entry-at-requires : tie.Need-entry-at-requires Inv-loop μ-loop Inv-names μ-names
 entry-at-requires c κs = search needs
@@ -84,11 +87,14 @@ names-less c = search needs
 
 names-again : tie.Need-names-again Inv-loop μ-loop Inv-names μ-names
 unfolding entryIs
-names-again c = let a = c .before .before .before .before .before .before .before .before .before .args in
+names-again c =
+    let a = c .before .before .before .before .before .before .before .before .before .args in
+    let names′ = c .before .before .before .before .before .before .names in
+    let entry-at′ = c .before .before .entry-at in
     let o = c .before .before .before .before in
     let w = slice (a .from) (a .to) (a .s .now) in
-    let other = ne-eqb _ _ (λ e. c .if3 .taken (c .before .before .entry-at .ensures ∙ e ∙ sym (c .before .part-at .ensures))) in
-    (omega arith, first-none (entryIs (a .names .now) w) (c .before .before .before .before .before .before .names .i) (o .loop .inv .2) (all-fails (Same (a .names .now) w (c .before .before .before .before .before .before .names .i)) (o .loop .j) 4 (omega arith) other))
+    let other = ne-eqb _ _ (λ e. c .if3 .taken (entry-at′ .ensures ∙ e ∙ sym (c .before .part-at .ensures))) in
+    (omega arith, first-none (entryIs (a .names .now) w) (names′ .i) (o .loop .inv .2) (all-fails (Same (a .names .now) w (names′ .i)) (o .loop .j) 4 (omega arith) other))
 
 returns : tie.Need-returns Inv-loop μ-loop Inv-names μ-names
 unfolding lookup

@@ -33,9 +33,13 @@ shared-slice-read-if2-2 : tie.Need-shared-slice-read-if2-2 Inv-loop μ-loop
 shared-slice-read-if2-2 c = search needs
 
 returns-2 : tie.Need-returns-2 Inv-loop μ-loop
-returns-2 c = let o = c .before .before .before .before .before in
+returns-2 c =
+    let o = c .before .before .before .before .before in
     let a = o .before .args in
-    sym (o .loop .inv ∙ starts-step (a .w .now) (a .s .now) (o .loop .i) (o .loop .p) (omega arith) (omega arith) ∙ ap (λ (b : Bool). b && starts (drop (suc (o .loop .i)) (a .w .now)) (drop (suc (o .loop .p)) (a .s .now))) (ne-eqb _ _ (c .if2 .taken)))
+    sym
+    (o .loop .inv
+    ∙ starts-step (a .w .now) (a .s .now) (o .loop .i) (o .loop .p) (omega arith) (omega arith)
+    ∙ ap (λ (b : Bool). b && starts (drop (suc (o .loop .i)) (a .w .now)) (drop (suc (o .loop .p)) (a .s .now))) (ne-eqb _ _ (c .if2 .taken)))
 
 add-p : tie.Need-add-p Inv-loop μ-loop
 add-p c = search needs
@@ -47,9 +51,13 @@ loop-less : tie.Need-loop-less Inv-loop μ-loop
 loop-less c = search needs
 
 loop-again : tie.Need-loop-again Inv-loop μ-loop
-loop-again c = let o = c .before .before .before .before .before in
+loop-again c =
+    let o = c .before .before .before .before .before in
     let a = o .before .args in
-    rw (add-one (o .loop .i), add-one (o .loop .p)) (o .loop .inv ∙ starts-step (a .w .now) (a .s .now) (o .loop .i) (o .loop .p) (omega arith) (omega arith) ∙ ap (λ (b : Bool). b && starts (drop (suc (o .loop .i)) (a .w .now)) (drop (suc (o .loop .p)) (a .s .now))) (eq-eqb _ _ (c .if2 .left)))
+    rw (add-one (o .loop .i), add-one (o .loop .p))
+    (o .loop .inv
+    ∙ starts-step (a .w .now) (a .s .now) (o .loop .i) (o .loop .p) (omega arith) (omega arith)
+    ∙ ap (λ (b : Bool). b && starts (drop (suc (o .loop .i)) (a .w .now)) (drop (suc (o .loop .p)) (a .s .now))) (eq-eqb _ _ (c .if2 .left)))
 
 returns-3 : tie.Need-returns-3 Inv-loop μ-loop
 returns-3 c = let o = c .before in

@@ -26,17 +26,23 @@ shared-slice-read-if1 : tie.Need-shared-slice-read-if1 Inv-loop μ-loop
 shared-slice-read-if1 c = search needs
 
 returns : tie.Need-returns Inv-loop μ-loop
-returns c = let s = c .before .before .before .before .args .s .now in
-    let i = c .before .before .before .loop .i in
-    sym (c .before .before .before .loop .inv ∙ all-at (within 32 126) s i (omega arith) ∙ ap (λ (b : Bool). b && allOf (within 32 126) (drop (suc i) s)) (within-under 32 126 _ (c .if1 .taken)))
+returns c =
+    let args′ = c .before .before .before .before .args in
+    let loop′ = c .before .before .before .loop in
+    let s = args′ .s .now in
+    let i = loop′ .i in
+    sym (loop′ .inv ∙ all-at (within 32 126) s i (omega arith) ∙ ap (λ (b : Bool). b && allOf (within 32 126) (drop (suc i) s)) (within-under 32 126 _ (c .if1 .taken)))
 
 shared-slice-read-if2 : tie.Need-shared-slice-read-if2 Inv-loop μ-loop
 shared-slice-read-if2 c = search needs
 
 returns-2 : tie.Need-returns-2 Inv-loop μ-loop
-returns-2 c = let s = c .before .before .before .before .before .before .args .s .now in
-    let i = c .before .before .before .before .before .loop .i in
-    sym (c .before .before .before .before .before .loop .inv ∙ all-at (within 32 126) s i (omega arith) ∙ ap (λ (b : Bool). b && allOf (within 32 126) (drop (suc i) s)) (within-over 32 126 _ (c .if2 .taken)))
+returns-2 c =
+    let args′ = c .before .before .before .before .before .before .args in
+    let loop′ = c .before .before .before .before .before .loop in
+    let s = args′ .s .now in
+    let i = loop′ .i in
+    sym (loop′ .inv ∙ all-at (within 32 126) s i (omega arith) ∙ ap (λ (b : Bool). b && allOf (within 32 126) (drop (suc i) s)) (within-over 32 126 _ (c .if2 .taken)))
 
 add-i : tie.Need-add-i Inv-loop μ-loop
 add-i c = search needs
@@ -45,9 +51,16 @@ loop-less : tie.Need-loop-less Inv-loop μ-loop
 loop-less c = search needs
 
 loop-again : tie.Need-loop-again Inv-loop μ-loop
-loop-again c = let s = c .before .before .before .before .before .before .args .s .now in
-    let i = c .before .before .before .before .before .loop .i in
-    rw (add-one i) (c .before .before .before .before .before .loop .inv ∙ all-at (within 32 126) s i (omega arith) ∙ ap (λ (b : Bool). b && allOf (within 32 126) (drop (suc i) s)) (within-is 32 126 _ (c .before .before .if1 .left) (c .if2 .left)))
+loop-again c =
+    let args′ = c .before .before .before .before .before .before .args in
+    let loop′ = c .before .before .before .before .before .loop in
+    let if1′ = c .before .before .if1 in
+    let s = args′ .s .now in
+    let i = loop′ .i in
+    rw (add-one i)
+    (loop′ .inv
+    ∙ all-at (within 32 126) s i (omega arith)
+    ∙ ap (λ (b : Bool). b && allOf (within 32 126) (drop (suc i) s)) (within-is 32 126 _ (if1′ .left) (c .if2 .left)))
 
 returns-3 : tie.Need-returns-3 Inv-loop μ-loop
 returns-3 c = sym (c .before .loop .inv ∙ all-end (within 32 126) (c .before .before .args .s .now) (c .before .loop .i) (omega arith))
