@@ -1,3 +1,0 @@
--- The laws of the families.
-pub mod StepLaws
-pub mod LineLaws

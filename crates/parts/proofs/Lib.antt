@@ -1,3 +1,0 @@
--- The laws of the parts.
-pub mod LineLaws
-pub mod ExclusionLaws
