@@ -1,3 +1,4 @@
+-- `sat_mutex::print_clauses` has fewer clauses left after each piece, and ends when a piece is empty.
 use Prim.Native.Nat.{_≤_}
 use mathlib.Core.Path.{_≡_, sym}
 use lib.Seq.{length-take-le}
@@ -5,10 +6,6 @@ use lib.ListN.{length}
 use borrow.Author.Needs.{needs}
 use Rattle.sat_mutex.proofs.print_clauses.Statement.{statement}
 use Rattle.sat_mutex.proofs.print_clauses.Tie as tie
-use Rattle.sat_mutex.proofs.print_clauses.Reads as reads
-use Rattle.sat_mutex.proofs.print_clauses.Lts as lts
-use Rattle.cnf.proofs.clauses.Reads as clauses-reads
-use Rattle.sat_mutex.proofs.print_numbers.Reads as print-numbers-reads
 
 abbrev Inv-loop : tie.InvT-loop
 Inv-loop j count numbers₀ line₀ left₀ numbers line left = (left ≤ count) × (length numbers ≡ length numbers₀) × (length line ≡ length line₀)
@@ -16,107 +13,81 @@ Inv-loop j count numbers₀ line₀ left₀ numbers line left = (left ≤ count)
 abbrev μ-loop : tie.MeasureT-loop
 μ-loop j count numbers₀ line₀ left₀ numbers line left = left
 
--- src/main.rt:59:5
 loop-holds : tie.Need-loop-holds Inv-loop μ-loop
 loop-holds c = search needs
 
--- src/main.rt:60:67
 sub-clauses : tie.Need-sub-clauses Inv-loop μ-loop
 sub-clauses c = search needs
 
--- src/main.rt:60:58
 sub-clauses-2 : tie.Need-sub-clauses-2 Inv-loop μ-loop
 sub-clauses-2 c = search needs
 
--- src/main.rt:60:42
 clauses-requires : tie.Need-clauses-requires Inv-loop μ-loop
 clauses-requires c κs = search needs
 
--- src/main.rt:60:28
 enum-known-clauses : tie.Need-enum-known-clauses Inv-loop μ-loop
 enum-known-clauses c = search needs
 
--- src/main.rt:61:13
 enum-told : tie.Need-enum-told Inv-loop μ-loop
 enum-told c = search needs
 
--- src/main.rt:61:13
 same-length : tie.Need-same-length Inv-loop μ-loop
 same-length c = search needs
 
--- src/main.rt:61:13
 same-length-2 : tie.Need-same-length-2 Inv-loop μ-loop
 same-length-2 c = search needs
 
--- src/main.rt:61:13
 returns : tie.Need-returns Inv-loop μ-loop
 returns c = search needs
 
--- src/main.rt:64:13
 same-length-3 : tie.Need-same-length-3 Inv-loop μ-loop
 same-length-3 c = search needs
 
--- src/main.rt:64:13
 same-length-4 : tie.Need-same-length-4 Inv-loop μ-loop
 same-length-4 c = search needs
 
--- src/main.rt:64:13
 returns-2 : tie.Need-returns-2 Inv-loop μ-loop
 returns-2 c = search needs
 
--- src/main.rt:67:13
 same-length-5 : tie.Need-same-length-5 Inv-loop μ-loop
 same-length-5 c = search needs
 
--- src/main.rt:67:13
 same-length-6 : tie.Need-same-length-6 Inv-loop μ-loop
 same-length-6 c = search needs
 
--- src/main.rt:67:13
 returns-3 : tie.Need-returns-3 Inv-loop μ-loop
 returns-3 c = search needs
 
--- src/main.rt:70:13
 same-length-7 : tie.Need-same-length-7 Inv-loop μ-loop
 same-length-7 c = search needs
 
--- src/main.rt:70:13
 same-length-8 : tie.Need-same-length-8 Inv-loop μ-loop
 same-length-8 c = search needs
 
--- src/main.rt:70:13
 returns-4 : tie.Need-returns-4 Inv-loop μ-loop
 returns-4 c = search needs
 
--- src/main.rt:72:23
 slice-reshare-prefix-print-numbers : tie.Need-slice-reshare-prefix-print-numbers Inv-loop μ-loop
 slice-reshare-prefix-print-numbers c = search needs
 
--- src/main.rt:72:23
 slice-aggregate-print-numbers : tie.Need-slice-aggregate-print-numbers Inv-loop μ-loop
 slice-aggregate-print-numbers c = sym (length-take-le _ _ (c .before .if3 .left))
 
--- src/main.rt:72:9
 print-numbers-requires : tie.Need-print-numbers-requires Inv-loop μ-loop
 print-numbers-requires c κs = search needs
 
--- src/main.rt:59:5
 loop-less : tie.Need-loop-less Inv-loop μ-loop
 loop-less c = search needs
 
--- src/main.rt:59:5
 loop-again : tie.Need-loop-again Inv-loop μ-loop
 loop-again c = search needs
 
--- src/main.rt:57:1
 same-length-9 : tie.Need-same-length-9 Inv-loop μ-loop
 same-length-9 c = search needs
 
--- src/main.rt:57:1
 same-length-10 : tie.Need-same-length-10 Inv-loop μ-loop
 same-length-10 c = search needs
 
--- src/main.rt:57:1
 returns-5 : tie.Need-returns-5 Inv-loop μ-loop
 returns-5 c = search needs
 

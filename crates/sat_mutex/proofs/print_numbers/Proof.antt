@@ -1,13 +1,10 @@
+-- `sat_mutex::print_numbers` goes on behind the numbers that were written, and ends when nothing was.
 use Prim.Native.Nat.{_≤_, _-_}
 use mathlib.Core.Path.{_≡_}
 use lib.ListN.{length}
 use borrow.Author.Needs.{needs}
 use Rattle.sat_mutex.proofs.print_numbers.Statement.{statement}
 use Rattle.sat_mutex.proofs.print_numbers.Tie as tie
-use Rattle.sat_mutex.proofs.print_numbers.Reads as reads
-use Rattle.sat_mutex.proofs.print_numbers.Lts as lts
-use Rattle.sat_mutex.proofs.print.Reads as print-reads
-use Rattle.text.proofs.numbers_text.Reads as numbers-text-reads
 
 abbrev Inv-loop : tie.InvT-loop
 Inv-loop numbers line₀ from₀ line from = (from ≤ length numbers) × (length line ≡ length line₀)
@@ -15,71 +12,54 @@ Inv-loop numbers line₀ from₀ line from = (from ≤ length numbers) × (lengt
 abbrev μ-loop : tie.MeasureT-loop
 μ-loop numbers line₀ from₀ line from = length numbers - from
 
--- src/main.rt:43:5
 loop-holds : tie.Need-loop-holds Inv-loop μ-loop
 loop-holds c = search needs
 
--- src/main.rt:44:36
 mul-numbers-text : tie.Need-mul-numbers-text Inv-loop μ-loop
 mul-numbers-text c = search needs
 
--- src/main.rt:44:36
 sub-numbers-text : tie.Need-sub-numbers-text Inv-loop μ-loop
 sub-numbers-text c = search needs
 
--- src/main.rt:44:36
 part-numbers-text-start : tie.Need-part-numbers-text-start Inv-loop μ-loop
 part-numbers-text-start c = search needs
 
--- src/main.rt:44:36
 part-numbers-text-end : tie.Need-part-numbers-text-end Inv-loop μ-loop
 part-numbers-text-end c = search needs
 
--- src/main.rt:44:13
 numbers-text-requires : tie.Need-numbers-text-requires Inv-loop μ-loop
 numbers-text-requires c κs = search needs
 
--- src/main.rt:46:13
 same-length : tie.Need-same-length Inv-loop μ-loop
 same-length c = search needs
 
--- src/main.rt:46:13
 returns : tie.Need-returns Inv-loop μ-loop
 returns c = search needs
 
--- src/main.rt:48:12
 sub-if2 : tie.Need-sub-if2 Inv-loop μ-loop
 sub-if2 c = search needs
 
--- src/main.rt:49:13
 same-length-2 : tie.Need-same-length-2 Inv-loop μ-loop
 same-length-2 c = search needs
 
--- src/main.rt:49:13
 returns-2 : tie.Need-returns-2 Inv-loop μ-loop
 returns-2 c = search needs
 
--- src/main.rt:51:9
 print-requires : tie.Need-print-requires Inv-loop μ-loop
 print-requires c κs = search needs
 
--- src/main.rt:52:9
 add-from : tie.Need-add-from Inv-loop μ-loop
 add-from c = search needs
 
--- src/main.rt:43:5
 loop-less : tie.Need-loop-less Inv-loop μ-loop
 loop-less c = search needs
 
--- src/main.rt:43:5
 loop-again : tie.Need-loop-again Inv-loop μ-loop
 loop-again c = search needs
 
--- src/main.rt:41:1
 same-length-3 : tie.Need-same-length-3 Inv-loop μ-loop
 same-length-3 c = search needs
 
--- src/main.rt:41:1
 returns-3 : tie.Need-returns-3 Inv-loop μ-loop
 returns-3 c = search needs
 
