@@ -33,7 +33,8 @@ lines-first b (d ∷ ds) = go (eqb b 10) (lines-first d ds)
     go true h = ap (λ (e : Bool). row [] e ∷ lines (d ∷ ds)) (sym (lt-ltb 0 (suc (suc (length ds))) (omega arith)))
     go false h =
         ap (push b) h
-        ∙ ap (λ (e : Bool). row (b ∷ upTo 10 (d ∷ ds)) e ∷ lines (drop (suc (length (upTo 10 (d ∷ ds)))) (d ∷ ds))) (sym (leb·suc-suc (suc (length (upTo 10 (d ∷ ds)))) (suc (length ds))))
+        ∙ ap (λ (e : Bool). row (b ∷ upTo 10 (d ∷ ds)) e ∷ lines (drop (suc (length (upTo 10 (d ∷ ds)))) (d ∷ ds)))
+        (sym (leb·suc-suc (suc (length (upTo 10 (d ∷ ds)))) (suc (length ds))))
 
 -- the same at a place of the text, whose line ends at e
 ltb-shift : (a n m : ℕ) → a < m → ltb n (m - a) ≡ ltb (a + n) m
