@@ -4,3 +4,4 @@ pub mod RowLaws
 pub mod TestLaws
 pub mod PlaceLaws
 pub mod WritingLaws
+pub mod PieceLaws

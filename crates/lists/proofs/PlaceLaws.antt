@@ -95,3 +95,11 @@ module _ (f : ℕ → Bool) where
   pub first-found : (n k : ℕ) → first n f ≡ n → f n ≡ true → n < k → first k f ≡ n
   unfolding first
   first-found n k e h l = row-found (λ i. not (f i)) n k e (ap not h) l
+
+pub first-same : (f g : ℕ → Bool) (n : ℕ) → ((i : ℕ) → i < n → f i ≡ g i) → first n f ≡ first n g
+unfolding first each
+first-same f g n h = ap passing (go n h)
+  where
+    go : (n : ℕ) → ((i : ℕ) → i < n → f i ≡ g i) → tab n (λ i. not (f i)) ≡ tab n (λ i. not (g i))
+    go zero h = refl
+    go (suc n) h = rw (go n (λ i l. h i (omega arith)), h n (omega arith))

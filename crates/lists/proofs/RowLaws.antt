@@ -5,6 +5,7 @@ use mathlib.Core.List.{List, [], _∷_, _++_, map, map-append}
 use Prim.Native.Nat.{ℕ, zero, suc, _+_, _*_, _≤_, _<_}
 use native.Mathlib.Omega.{arith}
 use native.Mathlib.Decide.{ℕ-discrete}
+use native.Mathlib.Nat.{mul-le-mul-right}
 use borrow.Author.Tests.{eq-eqb, ne-eqb}
 use lib.Dec.{eqb}
 use lib.ListN.{length, getD, length-append, List·getD-append}
@@ -48,6 +49,10 @@ sum-hit (suc n) i l = go (ℕ-discrete i n) (sum-hit n i)
     go (yes e) f = rw (sum-miss n i (omega arith), eq-eqb i n e) refl
     go (no e) f = rw (f (omega arith), ne-eqb i n e) refl
 
+-- row t of rows of k places ends before the row behind the last one begins
+pub row-fits : (t r k : ℕ) → t ≤ r → t * k + k ≤ suc r * k
+row-fits t r k h = let i = mul-le-mul-right {m = suc t} {n = suc r} k (omega arith) in omega arith
+
 -- ---- rows of parts
 
 module _ {T : Type 0} (g : ℕ → List T) where
@@ -59,6 +64,10 @@ module _ {T : Type 0} (g : ℕ → List T) where
   -- parts of one length
   pub length-parts : (n k : ℕ) → ((i : ℕ) → length (g i) ≡ k) → length (each n g) ≡ n * k
   length-parts n k h = length-each n ∙ sum-same n (λ i. length (g i)) (λ i. k) (λ i l. h i) ∙ sum-const n k
+
+  -- parts of one length, as far as the row goes
+  pub length-rows : (n k : ℕ) → ((i : ℕ) → i < n → length (g i) ≡ k) → length (each n g) ≡ n * k
+  length-rows n k h = length-each n ∙ sum-same n (λ i. length (g i)) (λ i. k) h ∙ sum-const n k
 
   -- place j of part i lies in the row
   pub part-within : (n i j : ℕ) → i < n → j < length (g i) → length (each i g) + j < length (each n g)
@@ -100,3 +109,15 @@ pub map-tab {ℓ ℓ′} : {S : Type ℓ} {T : Type ℓ′} (h : S → T) (n : �
 unfolding each
 map-tab h zero f = refl
 map-tab h (suc n) f = map-append h (tab n f) (f n ∷ []) ∙ rw (map-tab h n f)
+
+-- ---- rows by what stands in them
+
+pub each-same {ℓ} : {T : Type ℓ} (n : ℕ) (f g : ℕ → List T) → ((i : ℕ) → i < n → f i ≡ g i) → each n f ≡ each n g
+unfolding each
+each-same zero f g h = refl
+each-same (suc n) f g h = rw (each-same n f g (λ i l. h i (omega arith)), h n (omega arith))
+
+pub map-each {ℓ} : {S T : Type ℓ} (f : S → T) (n : ℕ) (g : ℕ → List S) → map f (each n g) ≡ each n (λ i. map f (g i))
+unfolding each
+map-each f zero g = refl
+map-each f (suc n) g = map-append f (each n g) (g n) ∙ rw (map-each f n g)

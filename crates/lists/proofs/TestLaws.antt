@@ -9,7 +9,7 @@ use native.Mathlib.Numerals.{add-one}
 use borrow.Author.Tests.{leb-true, le-leb, lt-leb}
 use lib.Dec.{leb}
 use Rattle.lists.specs.Tests.{every, all, within}
-use Rattle.lists.proofs.Logic.{and-left, and-right, and-no}
+use Rattle.lists.proofs.Logic.{and-left, and-right, and-no, and-yes, and-assoc}
 
 -- each of these passes: a tuple, where the list is written out
 abbrev pub Every : List Bool → Type 0
@@ -86,3 +86,14 @@ module _ (f : ℕ → Bool) where
       go : Dec (i ≡ n) → (i < n → all n f ≡ false) → (all n f && f n) ≡ false
       go (yes e) g = rw (← e, k) (and-no (all i f))
       go (no e) g = rw (g (omega arith))
+
+-- the first test by itself
+pub all-front : (n : ℕ) (f : ℕ → Bool) → all (suc n) f ≡ (f 0 && all n λ i. f (suc i))
+unfolding all
+all-front zero f = sym (and-yes (f 0))
+all-front (suc n) f = ap (λ b. b && f (suc n)) (all-front n f) ∙ and-assoc (f 0) (all n λ i. f (suc i)) (f (suc n))
+
+pub all-same : (n : ℕ) (f g : ℕ → Bool) → ((i : ℕ) → i < n → f i ≡ g i) → all n f ≡ all n g
+unfolding all
+all-same zero f g h = refl
+all-same (suc n) f g h = rw (all-same n f g (λ i l. h i (omega arith)), h n (omega arith))

@@ -105,3 +105,24 @@ module _ {T : Type 0} (g : ℕ → List T) where
       go : Dec (i ≡ n) → (i < n → length (each i g) + length (g i) ≤ length (each n g)) → length (each i g) + length (g i) ≤ length (each n g) + length (g n)
       go (yes e) f = rw e (omega arith)
       go (no e) f = let k = f (omega arith) in omega arith
+
+-- ---- a loop that writes part behind part: l as it was, now as it is, to the place behind the parts so far
+
+module _ {T : Type 0} (l now : List T) (at to i n : ℕ) (g : ℕ → List T) (part : List T)
+    (more : i < n) (room : at + length (each n g) ≤ length l) (place : to ≡ at + length (each i g)) (next : g i ≡ part) where
+  pub part-room : to + length part ≤ length l
+  part-room = let k = parts-room g n i more in let e = ap length next in omega arith
+
+  pub part-place : to + length part ≡ at + length (each (i + 1) g)
+  part-place = let k = parts-next g i in let e = ap length next in omega arith
+
+  pub part-grows : now ≡ write l at (each i g) → (l′ : List T) → l′ ≡ write now to part → l′ ≡ write l at (each (i + 1) g)
+  part-grows before l′ e =
+      let k = parts-room g n i more in
+      e ∙ ap (λ x. write x to part) before ∙ ap (λ k. write (write l at (each i g)) k part) place
+      ∙ ap (λ part. write (write l at (each i g)) (at + length (each i g)) part) (sym next)
+      ∙ parts-grow l at i g (omega arith)
+
+-- a part behind a part, by the place behind the first
+pub write-behind : {T : Type 0} (l : List T) (at to : ℕ) (p q : List T) → to ≡ at + length p → to + length q ≤ length l → write (write l at p) to q ≡ write l at (p ++ q)
+write-behind l at to p q e h = ap (λ k. write (write l at p) k q) e ∙ write-more l at p q (omega arith)

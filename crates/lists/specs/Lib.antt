@@ -3,3 +3,4 @@ pub mod Rows
 pub mod Tests
 pub mod Places
 pub mod Writing
+pub mod Pieces

@@ -1,0 +1,4 @@
+-- The laws of reading off.
+pub mod StandingLaws
+pub mod ReadingLaws
+pub mod AnswerLaws

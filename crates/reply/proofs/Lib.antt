@@ -1,0 +1,9 @@
+-- The laws of a reply, by what the code does with it.
+pub mod LineLaws
+pub mod HeardLaws
+pub mod BufferLaws
+pub mod MarkLaws
+pub mod ReplyLaws
+pub mod CheckLaws
+pub mod Accepted
+pub mod Examples

@@ -1,0 +1,60 @@
+-- Whatever the line came to, the reply halts there.
+use borrow.Author.Needs.{needs}
+use Rattle.reply.proofs.LineLaws.{open-fault, open-more, open-closed}
+use Rattle.reply.proofs.read_unended.Statement.{statement}
+use Rattle.reply.proofs.read_unended.Tie as tie
+
+read-value-line-requires : tie.Need-read-value-line-requires
+read-value-line-requires c κs = search needs
+
+enum-known-r : tie.Need-enum-known-r
+enum-known-r c = search needs
+
+enum-told : tie.Need-enum-told
+enum-told c = search needs
+
+enum-told-2 : tie.Need-enum-told-2
+enum-told-2 c = search needs
+
+same-length : tie.Need-same-length
+same-length c = search needs
+
+returns : tie.Need-returns
+returns c =
+    let k = c .before .before .before .before .before .before .before .before .before .args .line in
+    let r = c .before .before .before .before .before .read-value-line in
+    let g = c .before .r .given in
+    (open-fault k (r .result) (r .last .1 .1 .1 .0) _ (r .ensures) (g .0 .0) (g .1), tt)
+
+same-length-2 : tie.Need-same-length-2
+same-length-2 c = search needs
+
+returns-2 : tie.Need-returns-2
+returns-2 c =
+    let k = c .before .before .before .before .before .before .before .before .args .line in
+    let r = c .before .before .before .before .read-value-line in
+    (open-more k (r .result) (r .last .1 .1 .1 .0) _ (r .ensures) (c .enum-told .given .1), tt)
+
+same-length-3 : tie.Need-same-length-3
+same-length-3 c = search needs
+
+returns-3 : tie.Need-returns-3
+returns-3 c =
+    let k = c .before .before .before .before .before .before .before .before .args .line in
+    let r = c .before .before .before .before .read-value-line in
+    (open-closed k (r .result) (r .last .1 .1 .1 .0) _ (r .ensures) (c .enum-told2 .given .1), tt)
+
+pub read-unended-spec : {M : Type 1} → statement M
+read-unended-spec =
+    tie.close
+    (tie.spec
+    read-value-line-requires
+    enum-known-r
+    enum-told
+    enum-told-2
+    same-length
+    returns
+    same-length-2
+    returns-2
+    same-length-3
+    returns-3)

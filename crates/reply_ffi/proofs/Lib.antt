@@ -1,0 +1,2 @@
+-- The answer in C's form is the answer of the call.
+pub mod AnswerLaws

@@ -1,0 +1,2 @@
+-- The table and the answer as a caller in C has them.
+pub mod Foreign

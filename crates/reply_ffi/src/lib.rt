@@ -1,0 +1,90 @@
+// The check of a reply for a caller in C: the tests hold it to a second checker.
+ghost use mathlib.Core.Path.{_≡_};
+ghost use Rattle.reply.specs.Check.{checked};
+ghost use Rattle.reply_ffi.specs.Foreign.{programOf, jobOf, outcomeOf};
+use job::Job;
+use job::Program;
+use reply::Checked;
+
+// A job's table without its names, as C lays it out.
+#[repr(C)]
+pub struct Table {
+    pub bound: usize,
+    pub steps: usize,
+    pub variables: usize,
+    pub process: [u8; Job::STEPS],
+    pub kind: [u8; Job::STEPS],
+    pub to: [u16; Job::STEPS],
+    pub other: [u16; Job::STEPS],
+    pub variable: [u8; Job::STEPS],
+    pub value: [u8; Job::STEPS],
+    pub lemmas: usize,
+    pub lengths: [u8; Job::LEMMAS],
+    pub items: [i16; Job::LEMMAS * Job::NAMES],
+}
+
+// Acceptance, or the number and place of a refusal.
+#[repr(C)]
+pub struct Answer {
+    pub accepted: bool,
+    pub number: u8,
+    pub place: usize,
+}
+
+fn program_of(t: Table) -> Program
+    ensures { λ r. ⌜ r ≡ programOf t ⌝ }
+{
+    let process = t.process;
+    let kind = t.kind;
+    let to = t.to;
+    let other = t.other;
+    let variable = t.variable;
+    let value = t.value;
+    Program {
+        bound: t.bound,
+        steps: t.steps,
+        variables: t.variables,
+        process,
+        kind,
+        to,
+        other,
+        variable,
+        value,
+    }
+}
+
+fn job_of(t: Table) -> Job
+    ensures { λ r. ⌜ r ≡ jobOf t ⌝ }
+{
+    let program = program_of(t);
+    let names = [0; 4 * Job::STEPS];
+    let lengths = t.lengths;
+    let items = t.items;
+    Job {
+        program,
+        labels: names,
+        names,
+        lemmas: t.lemmas,
+        lengths,
+        items,
+    }
+}
+
+#[no_mangle]
+pub extern "C" fn check_reply(t: Table, reply: &[u8], work: &mut [u8]) -> Answer
+    ensures { λ r. ⌜ outcomeOf r (now (work .exit)) ≡ checked (jobOf t) (now (reply .entry)) (now (work .entry)) ⌝ }
+{
+    let r = reply::check(job_of(t), reply, work);
+    match r {
+        Checked::Accepted => Answer {
+            accepted: true,
+            number: 0,
+            place: 0,
+        },
+        Checked::Refused(r) => Answer {
+            accepted: false,
+            number: r.number,
+            place: r.place,
+        },
+    }
+}

@@ -1,0 +1,3 @@
+-- The proof of demand 3 about the calls (start at Demand3), and the laws of a run and its bytes.
+pub mod RunBytes
+pub mod Demand3

@@ -1,0 +1,2 @@
+-- Demand 3, said of what the calls do.
+pub mod Demand3

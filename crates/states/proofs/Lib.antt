@@ -1,0 +1,3 @@
+-- The laws of states in groups.
+pub mod GroupLaws
+pub mod TurnLaws

@@ -1,0 +1,2 @@
+-- The laws of one number of a reply.
+pub mod NumberLaws

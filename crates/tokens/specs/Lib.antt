@@ -1,0 +1,2 @@
+-- One number of a reply (document 01, 'Calls and buffers', Checking).
+pub mod Numbers

@@ -1,0 +1,141 @@
+// The bytes of a reply: where a line or a word ends, how it begins, and one number. Parts go by a slice and two numbers.
+ghost use mathlib.Core.Path.{_≡_};
+ghost use Prim.Native.Nat.{_+_, _-_, _≤_};
+ghost use lib.ListN.{length, take};
+ghost use lib.Seq.{slice};
+ghost use Rattle.lists.specs.Pieces.{upTo, starts};
+ghost use Rattle.tokens.specs.Numbers.{front, decimal, numbered as numberedToken, unsigned as unsignedToken, token};
+
+// A word between spaces.
+pub enum Token {
+    // No number of a reply.
+    Bad,
+    // The 0 that closes the numbers.
+    Zero,
+    // Number x + 1 with its sign, true without `-`, and whether its digits end the word.
+    Number(bool, usize, bool),
+}
+
+// Where a part that is to end at to ends: there, or at the text's end.
+fn end(s: &[u8], to: usize) -> usize
+    ensures { λ r. ⌜ (r ≤ length (now (s .entry))) × (take r (now (s .entry)) ≡ take to (now (s .entry))) ⌝ }
+{
+    if to < s.len() { to } else { s.len() }
+}
+
+// Where the first k stands, or where the part ends.
+pub fn find(s: &[u8], k: u8, from: usize, to: usize) -> usize
+    ensures { λ r. ⌜ r ≡ from + length (upTo k (slice from to (now (s .entry)))) ⌝ }
+{
+    let e = end(s, to);
+    let mut i = from;
+    while i < e {
+        if s[i] == k {
+            return i;
+        }
+        i += 1;
+    }
+    i
+}
+
+// The part begins with t.
+pub fn begins(s: &[u8], from: usize, to: usize, t: &[u8]) -> bool
+    ensures { λ r. ⌜ r ≡ starts (now (t .entry)) (slice from to (now (s .entry))) ⌝ }
+{
+    let e = end(s, to);
+    let mut at = from;
+    let mut i: usize = 0;
+    while i < t.len() {
+        if e <= at {
+            return false;
+        }
+        if s[at] != t[i] {
+            return false;
+        }
+        at += 1;
+        i += 1;
+    }
+    true
+}
+
+// Where the digits end.
+fn digits(s: &[u8], from: usize, to: usize) -> usize
+    requires { ⌜ (from ≤ to) × (to ≤ length (now s)) ⌝ }
+    ensures { λ r. ⌜ (r ≡ from + length (front (slice from to (now (s .entry))))) × (from ≤ r) × (r ≤ to) ⌝ }
+{
+    let mut i = from;
+    while i < to {
+        if s[i] < 48 {
+            return i;
+        }
+        if 57 < s[i] {
+            return i;
+        }
+        i += 1;
+    }
+    i
+}
+
+// The number that at most seven digits write.
+fn value(s: &[u8], from: usize, to: usize) -> usize
+    requires { ⌜ (from ≤ to) × (to ≤ length (now s)) × (to - from ≤ 7) × (front (slice from to (now s)) ≡ slice from to (now s)) ⌝ }
+    ensures { λ r. ⌜ r ≡ decimal 0 (slice from to (now (s .entry))) ⌝ }
+{
+    let mut v: usize = 0;
+    let mut i = from;
+    while i < to {
+        v = v * 10 + (s[i] as usize - 48);
+        i += 1;
+    }
+    v
+}
+
+// A number by its sign: 0 closes, and there is no `-0`.
+fn numbered(on: bool, v: usize, whole: bool) -> Token
+    ensures { λ r. ⌜ r ≡ numberedToken on v whole ⌝ }
+{
+    if v == 0 {
+        if on {
+            if whole {
+                return Token::Zero;
+            }
+        }
+        return Token::Bad;
+    }
+    Token::Number(on, v - 1, whole)
+}
+
+// A number behind its sign.
+fn unsigned(s: &[u8], on: bool, from: usize, to: usize) -> Token
+    requires { ⌜ (from ≤ to) × (to ≤ length (now s)) ⌝ }
+    ensures { λ r. ⌜ r ≡ unsignedToken on (slice from to (now (s .entry))) ⌝ }
+{
+    let e = digits(s, from, to);
+    if e == from {
+        return Token::Bad;
+    }
+    if 7 < e - from {
+        return Token::Bad;
+    }
+    if s[from] == 48 {
+        if 1 < e - from {
+            return Token::Bad;
+        }
+    }
+    numbered(on, value(s, from, e), e == to)
+}
+
+// The word that is this part.
+pub fn token_at(s: &[u8], from: usize, to: usize) -> Token
+    ensures { λ r. ⌜ r ≡ token (slice from to (now (s .entry))) ⌝ }
+{
+    let e = end(s, to);
+    if e <= from {
+        return Token::Bad;
+    }
+    if s[from] == 45 {
+        unsigned(s, false, from + 1, e)
+    } else {
+        unsigned(s, true, from, e)
+    }
+}
