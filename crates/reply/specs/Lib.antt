@@ -4,4 +4,5 @@ pub mod Said
 pub mod Lines
 pub mod Reply
 pub mod Check
+pub mod Acceptance
 pub mod Answers
