@@ -117,6 +117,11 @@ unfolding each
 each-same zero f g h = refl
 each-same (suc n) f g h = rw (each-same n f g (λ i l. h i (omega arith)), h n (omega arith))
 
+pub tab-same {ℓ} : {T : Type ℓ} (n : ℕ) (f g : ℕ → T) → ((i : ℕ) → i < n → f i ≡ g i) → tab n f ≡ tab n g
+unfolding each
+tab-same zero f g h = refl
+tab-same (suc n) f g h = rw (tab-same n f g (λ i l. h i (omega arith)), h n (omega arith))
+
 pub map-each {ℓ} : {S T : Type ℓ} (f : S → T) (n : ℕ) (g : ℕ → List S) → map f (each n g) ≡ each n (λ i. map f (g i))
 unfolding each
 map-each f zero g = refl

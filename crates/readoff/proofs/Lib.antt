@@ -2,3 +2,4 @@
 pub mod StandingLaws
 pub mod ReadingLaws
 pub mod AnswerLaws
+pub mod FrontLaws

@@ -11,7 +11,7 @@ use lib.ListN.{length, set, drop, List·getD-append}
 use lib.Seq.{set-at, set-append-left}
 use Rattle.lists.specs.Rows.{each, tab, num}
 use Rattle.lists.specs.Pieces.{Pieces, last, piece, cut, starts}
-use Rattle.lists.proofs.RowLaws.{length-tab, getD-tab}
+use Rattle.lists.proofs.RowLaws.{length-tab, getD-tab, tab-same}
 use Rattle.job.specs.declared.Literal.{Literal}
 use Rattle.job.specs.Literals.{valued}
 use Rattle.tokens.specs.declared.Token.{Token}
@@ -121,11 +121,6 @@ module _ {S T : Type 0} (A : Store S) (B : Store T) (h : S → T) (N : ℕ)
       go (begun k ps) = rw (lines-same ps k m) (speak (valueLinesIn A N k m ps))
 
 -- ---- rows
-
-pub tab-same : (n : ℕ) (f g : ℕ → ℕ) → ((x : ℕ) → x < n → f x ≡ g x) → tab n f ≡ tab n g
-unfolding each
-tab-same zero f g e = refl
-tab-same (suc n) f g e = rw (tab-same n f g (λ x l. e x (omega arith)), e n (omega arith))
 
 set-tab : (n : ℕ) (f : ℕ → ℕ) (x v : ℕ) → x < n → set (tab n f) x v ≡ tab n (λ y. cond (eqb x y) v (f y))
 unfolding each
