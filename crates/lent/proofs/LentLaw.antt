@@ -52,20 +52,22 @@ use Rattle.fields.proofs.Field.Laws as F′
 use Rattle.lent.proofs.Readers.{Definition, handed, handed-says, lent, lent-says}
 
 -- the code, with the reader by value that it calls
-abbrev pub wrapper : Name → Fn
-wrapper f = record {
-  lifetimes = 2; outlives = []; params = 2;
+abbrev pub reader-over : Name → Fn
+reader-over f = record {
+  lifetimes = 2;
+  outlives = [];
+  params = 2;
   locals =
-    local F′.mir valueLocal
-    ∷ local (tyStruct (38 ∷ 91 ∷ 93 ∷ []) (tcons (tyRef (named 0) imm (tyInt w8)) (tcons (tyInt w64) tnil))) valueLocal
-    ∷ local (tyRef (named 1) mut (pointee (T.the-row .written))) valueLocal
-    ∷ local R′.mir valueLocal
-    ∷ local T′.mir valueLocal ∷ [];
+      local F′.mir valueLocal
+      ∷ local (tyStruct (38 ∷ 91 ∷ 93 ∷ []) (tcons (tyRef (named 0) imm (tyInt w8)) (tcons (tyInt w64) tnil))) valueLocal
+      ∷ local (tyRef (named 1) mut (pointee (T.the-row .written))) valueLocal
+      ∷ local R′.mir valueLocal
+      ∷ local T′.mir valueLocal ∷ [];
   body =
-    seq (assign (place 4 []) (rvOpd (copy (place 2 (deref T′.mir ∷ [])))))
-    (seq (call f (copy (place 1 []) ∷ copy (place 4 []) ∷ []) (place 3 []))
-    (seq (assign (place 2 (deref T′.mir ∷ [])) (rvOpd (copy (place 3 (field 1 ∷ [])))))
-    (seq (assign (place 0 []) (rvOpd (copy (place 3 (field 0 ∷ []))))) return)))
+      seq (assign (place 4 []) (rvOpd (copy (place 2 (deref T′.mir ∷ [])))))
+      (seq (call f (copy (place 1 []) ∷ copy (place 4 []) ∷ []) (place 3 []))
+      (seq (assign (place 2 (deref T′.mir ∷ [])) (rvOpd (copy (place 3 (field 1 ∷ [])))))
+      (seq (assign (place 0 []) (rvOpd (copy (place 3 (field 0 ∷ []))))) return)));
 }
 
 abbrev behind : Slot 2
@@ -119,9 +121,9 @@ module _ {M : Type 1} (𝓤 : URA M) (H : Heap 𝓤) (A : Atoms 𝓤) (W : Given
         feqI ! (List Val) (vptr b o ∷ []) (vptr b o ∷ []) refl $ fjoin3 ! $ nothing ! $ move ! (1 ∷ 0 ∷ []) $ fjoin ! $ move ! (1 ∷ 0 ∷ []) $ fjoin ! $ done !
 
     module _ (C : Calls 𝓤 H) (Λ : Loops 𝓤 H) (fm : FmC 𝓤 H (W .laws) C) (known : Triple 𝓤 (C f) Callee) where
-      walk : Is (ShrSlice (named 0) κ u8) s (v ∷ []) → ent 𝓤 (onEntry 𝓤 H A (lent .signature) (κ, (κ′, tt)) (q, (q′, tt)) x at) (WpFn 𝓤 H C Λ (wrapper f) (v ∷ vptr b o ∷ []) Post)
+      walk : Is (ShrSlice (named 0) κ u8) s (v ∷ []) → ent 𝓤 (onEntry 𝓤 H A (lent .signature) (κ, (κ′, tt)) (q, (q′, tt)) x at) (WpFn 𝓤 H C Λ (reader-over f) (v ∷ vptr b o ∷ []) Post)
       walk p =
-          qed W ((‵ (flft κ q) ⊛ ‵ (flft κ′ q′) ⊛ ‵ ftrue) ∷ ‵ (owns (ShrSlice (named 0) κ u8 ∷ MutRef (named 1) κ′ T.the-row ∷ []) x at) ∷ []) ∵ enter ! C Λ (wrapper f) (v ∷ vptr b o ∷ []) _ $
+          qed W ((‵ (flft κ q) ⊛ ‵ (flft κ′ q′) ⊛ ‵ ftrue) ∷ ‵ (owns (ShrSlice (named 0) κ u8 ∷ MutRef (named 1) κ′ T.the-row ∷ []) x at) ∷ []) ∵ enter ! C Λ (reader-over f) (v ∷ vptr b o ∷ []) _ $
           alloc1 ! (λ l₀. alloc1 ! (λ l₁. alloc1 ! (λ l₂. alloc1 ! (λ l₃. alloc1 ! (λ l₄. alloc0 ! $ params1 ! $ pass1 ! (init ! 6 refl (shr-slice-lawful 𝓤 H A W (named 0) κ u8 .typed s (v ∷ []) p .0)) $ pass1 ! (init ! 4 refl (tt, tt)) $ pass0 ! $
           move ! (11 ∷ []) $ fsplit ! $ move ! (1 ∷ []) $ fsplit ! $ fsplit3 ! $ drop ! $ move ! (14 ∷ []) $ split ! $ move ! (1 ∷ []) $ split ! $ move ! (3 ∷ 4 ∷ 0 ∷ []) $
           opens ! tt T.the-row {h = h} b o (λ vs. spelt ! T.the-row (Is T.the-row) (shows 𝓤 H A T.the-row) (LL.vals T.the-type T′.the-laws) (LL.tells T.the-type T′.the-laws) fullShare h vs b o $
@@ -147,26 +149,26 @@ module _ {M : Type 1} (𝓤 : URA M) (H : Heap 𝓤) (A : Atoms 𝓤) (W : Given
           move ! (14 ∷ 15 ∷ []) $ free1 ! $ move ! (12 ∷ 13 ∷ []) $ free1 ! $ move ! (10 ∷ 11 ∷ []) $ free1 ! $ move ! (8 ∷ 9 ∷ []) $ free1 ! $ move ! (6 ∷ 7 ∷ []) $ free1 ! $ free0 ! $
           owned ! F.the-row (Is F.the-row) (EL.makes F.the-type F′.the-plain 𝓤 H A) (r .field) _ (LL.owed R.the-type R′.the-laws r _ is .0) $ keep ! (1 ∷ 2 ∷ 3 ∷ 4 ∷ 5 ∷ 0 ∷ []) $ by ! (exits r _ e))))))))))))
 
-  walks : (C : Calls 𝓤 H) (Λ : Loops 𝓤 H) → FmC 𝓤 H (W .laws) C → Triple 𝓤 (C f) Callee → Walks 𝓤 H A lent stayed (WpFn 𝓤 H C Λ (wrapper f)) (lent-says 𝓤 d)
+  walks : (C : Calls 𝓤 H) (Λ : Loops 𝓤 H) → FmC 𝓤 H (W .laws) C → Triple 𝓤 (C f) Callee → Walks 𝓤 H A lent stayed (WpFn 𝓤 H C Λ (reader-over f)) (lent-says 𝓤 d)
   walks C Λ fm known =
-      walked 𝓤 H A lent stayed (lent-says 𝓤 d) (WpFn 𝓤 H C Λ (wrapper f)) (λ κs. (slice-vals, (ptr-vals, tt))) (λ κs. (shr-slice-tells (named 0) (κs .0) u8, (mut-tells (named 1) (κs .1 .0) T.the-row, tt)))
+      walked 𝓤 H A lent stayed (lent-says 𝓤 d) (WpFn 𝓤 H C Λ (reader-over f)) (λ κs. (slice-vals, (ptr-vals, tt))) (λ κs. (shr-slice-tells (named 0) (κs .0) u8, (mut-tells (named 1) (κs .1 .0) T.the-row, tt)))
       (λ κs qs bounds a g are. via 𝓤 _ (fst∗ 𝓤 _ (emp 𝓤)) (walk (κs .0) (κs .1 .0) (qs .0) (qs .1 .0) bounds (a .0) (a .1 .0 .ptr .0) (a .1 .0 .ptr .1) (a .1 .0 .name) (a .1 .0 .now) C Λ fm known (are .0)))
 
-  meets : (𝓣 : Tables 𝓤 H) → Triple 𝓤 (𝓣 .C f) Callee → Meets 𝓤 H A (lent .signature) (WpFn 𝓤 H (𝓣 .C) (𝓣 .Λ) (wrapper f)) (closing 𝓤 H A lent (lent-says 𝓤 d))
+  meets : (𝓣 : Tables 𝓤 H) → Triple 𝓤 (𝓣 .C f) Callee → Meets 𝓤 H A (lent .signature) (WpFn 𝓤 H (𝓣 .C) (𝓣 .Λ) (reader-over f)) (closing 𝓤 H A lent (lent-says 𝓤 d))
   meets 𝓣 known =
       walk-meets 𝓤 H A lent stayed W (goes-none-slice 𝓤 H A W 2 (0 ∷ []) tt (plain (λ _. u8)) yes, (goes-ref 𝓤 H A W 2 1 tt behind, tt)) (lent-says 𝓤 d)
-      (WpFn 𝓤 H (𝓣 .C) (𝓣 .Λ) (wrapper f)) (WpFn-mono 𝓤 H (W .laws) 𝓣 (wrapper f)) (walks (𝓣 .C) (𝓣 .Λ) (fmOf 𝓤 H (W .laws) 𝓣) known)
+      (WpFn 𝓤 H (𝓣 .C) (𝓣 .Λ) (reader-over f)) (WpFn-mono 𝓤 H (W .laws) 𝓣 (reader-over f)) (walks (𝓣 .C) (𝓣 .Λ) (fmOf 𝓤 H (W .laws) 𝓣) known)
 
--- where key is a wrapper of f in env, and f is a reader by value that meets d's contract
+-- where key is such a function over f in env, and f is a reader by value that meets d's contract
 module _ {M : Type 1} (𝓤 : URA M) (H : Heap 𝓤) (𝓜 : Model 𝓤 H) (𝓖 : GhostRules 𝓤 H) (𝓡 : Running 𝓤 H 𝓜) where
   pub lent-meets : (d : Definition) (env : Env) (key f : Name) (reader : Routine) → env f ≡ reader
-      → Closed 𝓤 H (tables 𝓤 H 𝓜 𝓡 env .C) (tables 𝓤 H 𝓜 𝓡 env .Λ) key (wrapper f)
+      → Closed 𝓤 H (tables 𝓤 H 𝓜 𝓡 env .C) (tables 𝓤 H 𝓜 𝓡 env .Λ) key (reader-over f)
       → Meets 𝓤 H (𝓖 .A) (handed .signature) (𝓡 .run reader) (closing 𝓤 H (𝓖 .A) handed (handed-says 𝓤 d))
       → Meets 𝓤 H (𝓖 .A) (lent .signature) (𝓡 .run (env key)) (closing 𝓤 H (𝓖 .A) lent (lent-says 𝓤 d))
   unfolding tablesOf
   lent-meets d env key f reader calls unfolded met =
       let W = givenOf 𝓤 H 𝓜 𝓖 in
       let here = tables 𝓤 H 𝓜 𝓡 env in
-      entered 𝓤 H (tripleOf 𝓤 H (𝓖 .A) (lent .signature) (closing 𝓤 H (𝓖 .A) lent (lent-says 𝓤 d))) (here .C) (here .Λ) key (wrapper f) unfolded
+      entered 𝓤 H (tripleOf 𝓤 H (𝓖 .A) (lent .signature) (closing 𝓤 H (𝓖 .A) lent (lent-says 𝓤 d))) (here .C) (here .Λ) key (reader-over f) unfolded
       (meets 𝓤 H (𝓖 .A) W d f (tablesOf 𝓤 H 𝓜 here)
       (cited 𝓤 H (Callee 𝓤 H (𝓖 .A) W d f) 𝓜 𝓡 env f reader calls met))

@@ -23,33 +23,36 @@ Definition = List ℕ → Cursor → Moved
 abbrev pub handed : Ended
 handed = record {
   signature = record {
-    lifetimes = 1; outlives = [];
+    lifetimes = 1;
+    outlives = [];
     params = SliceRefOf (0 ∷ []) tt (plain (λ _. u8)) (λ _. tt) ∷ plain (λ _. T.the-row) ∷ [];
-    result = plain (λ _. R.the-row)
+    result = plain (λ _. R.the-row);
   };
-  kept = (yes, (yes, tt))
+  kept = (yes, (yes, tt));
 }
 
 -- fn f(s: &[u8], at: &mut Cursor) -> Field
 abbrev pub lent : Ended
 lent = record {
   signature = record {
-    lifetimes = 2; outlives = [];
+    lifetimes = 2;
+    outlives = [];
     params = SliceRefOf (0 ∷ []) tt (plain (λ _. u8)) (λ _. tt) ∷ RefMutOf (1 ∷ []) tt (plain (λ _. T.the-row)) (λ _. tt) ∷ [];
-    result = plain (λ _. F.the-row)
+    result = plain (λ _. F.the-row);
   };
-  kept = (yes, (yes, tt))
+  kept = (yes, (yes, tt));
 }
 
 -- fn f(s: &[u8], line: usize, column: usize) -> Moved
 abbrev pub placed : Ended
 placed = record {
   signature = record {
-    lifetimes = 1; outlives = [];
+    lifetimes = 1;
+    outlives = [];
     params = SliceRefOf (0 ∷ []) tt (plain (λ _. u8)) (λ _. tt) ∷ plain (λ _. usize) ∷ plain (λ _. usize) ∷ [];
-    result = plain (λ _. R.the-row)
+    result = plain (λ _. R.the-row);
   };
-  kept = (yes, (yes, (yes, tt)))
+  kept = (yes, (yes, (yes, tt)));
 }
 
 module _ {M : Type 1} (𝓤 : URA M) (d : Definition) where
@@ -60,12 +63,12 @@ module _ {M : Type 1} (𝓤 : URA M) (d : Definition) where
   lent-says κs a = record {
     ghost = Unit {0};
     requires = λ _. emp 𝓤;
-    ensures = λ _ r end. fact 𝓤 ((r ≡ d (now (a .0)) (now (a .1 .0)) .field) × (now (end .1 .0) ≡ d (now (a .0)) (now (a .1 .0)) .at))
+    ensures = λ _ r end. fact 𝓤 ((r ≡ d (now (a .0)) (now (a .1 .0)) .field) × (now (end .1 .0) ≡ d (now (a .0)) (now (a .1 .0)) .at));
   }
 
   abbrev pub placed-says : Clauses 𝓤 placed
   placed-says κs a = record {
     ghost = Unit {0};
     requires = λ _. emp 𝓤;
-    ensures = λ _ r _. fact 𝓤 (r ≡ d (now (a .0)) (record { line = a .1 .0; column = a .1 .1 .0 }))
+    ensures = λ _ r _. fact 𝓤 (r ≡ d (now (a .0)) (record { line = a .1 .0; column = a .1 .1 .0 }));
   }
