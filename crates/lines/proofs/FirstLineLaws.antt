@@ -7,14 +7,14 @@ use native.Mathlib.Omega.{arith}
 use Rattle.lists.specs.Rows.{num}
 use Rattle.lists.specs.Tests.{within}
 use Rattle.lists.proofs.TestLaws.{is-within}
 use Rattle.fields.specs.Fields.{numberOf, digit}
-use Rattle.fields.specs.FirstLine.{then, after, valueOf, numberAt}
+use Rattle.lines.specs.FirstLine.{then, after, valueOf, numberAt}
 use Rattle.fields.specs.declared.Cursor.{Cursor}
 use Rattle.fields.specs.declared.Moved.{Moved}
 use Rattle.fields.specs.declared.Field.{Field}
 use Rattle.fields.specs.declared.Field.the-variants.{Read, No}
-use Rattle.fields.specs.declared.FirstLine.{FirstLine}
-use Rattle.fields.specs.declared.FirstLine.the-variants.{Bound, Refused}
+use Rattle.lines.specs.declared.FirstLine.{FirstLine}
+use Rattle.lines.specs.declared.FirstLine.the-variants.{Refused}
 
 pub after-no : (m m′ : Moved) (rest : Cursor → FirstLine) (n r : ℕ)
     → m ≡ m′ → m .field ≡ No n → r ≡ numberOf (m .field) → Refused r ≡ after m′ rest

@@ -5,18 +5,18 @@ use mathlib.Core.List.{List, [], _∷_}
 use lib.Dec.{eqb}
 use lib.ListN.{drop}
 use Rattle.lists.specs.Rows.{num}
-use Rattle.scan.specs.Bytes.{starts, wordAt, upTo}
+use Rattle.scan.specs.Bytes.{starts, wordAt}
 use Rattle.scan.specs.Names.{lookup}
 use Rattle.scan.specs.declared.Found.{Found}
 use Rattle.scan.specs.declared.Found.the-variants.{At, Nothing}
 use Rattle.fields.specs.Fields.{nameField, spaceField, variableField, equalsField, bitField, gotoField, toField, elseField, otherField, stepEndField}
 use Rattle.fields.specs.declared.Cursor.{Cursor}
 use Rattle.fields.specs.declared.Moved.{Moved}
 use Rattle.fields.specs.declared.Field.{Field}
 use Rattle.fields.specs.declared.Field.the-variants.{Read, No}
-use Rattle.fields.specs.declared.Step.{Step}
-use Rattle.fields.specs.declared.StepLine.{StepLine}
-use Rattle.fields.specs.declared.StepLine.the-variants.{Line, Refused}
+use Rattle.lines.specs.declared.Step.{Step}
+use Rattle.lines.specs.declared.StepLine.{StepLine}
+use Rattle.lines.specs.declared.StepLine.the-variants.{Line, Refused}
 
 -- 'A field that cannot be read ends the job with its number'; else the rest is read from where the cursor went
 unfoldable pub then : Field → Cursor → (Cursor → StepLine) → StepLine

@@ -1,13 +1,13 @@
 -- `kind_line` goes by the word that follows; one that follows lies in the line, so the cursor can move past it.
-use Rattle.fields.proofs.StepLineLaws.{picked, passed}
+use Rattle.lines.proofs.StepLineLaws.{picked, passed}
 use Rattle.fields.proofs.CursorLaws.{fixed-within}
-use Rattle.fields.specs.StepLine.{kindLine, gotoLine, testLine, on, maybeWord, criticalWord, ifWord}
-use Rattle.fields.specs.declared.Step.{Step}
+use Rattle.lines.specs.StepLine.{kindLine, gotoLine, testLine, on, maybeWord, criticalWord, ifWord}
+use Rattle.lines.specs.declared.Step.{Step}
 use native.Mathlib.Omega.{arith}
 use mathlib.Core.Path.{_∙_, ap, sym}
 use borrow.Author.Needs.{needs}
-use Rattle.fields.proofs.kind_line.Statement.{statement}
-use Rattle.fields.proofs.kind_line.Tie as tie
+use Rattle.lines.proofs.kind_line.Statement.{statement}
+use Rattle.lines.proofs.kind_line.Tie as tie
 
 slice-aggregate-follows : tie.Need-slice-aggregate-follows
 slice-aggregate-follows c = search needs

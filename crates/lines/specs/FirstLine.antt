@@ -3,13 +3,13 @@ use Prim.Native.Nat.{ℕ, _+_, _*_, _-_}
 use mathlib.Core.Bool.{cond}
 use mathlib.Core.List.{List}
 use Rattle.lists.specs.Rows.{num}
 use Rattle.fields.specs.Fields.{digit, boundField, rangeField, boundEndField}
 use Rattle.fields.specs.declared.Cursor.{Cursor}
 use Rattle.fields.specs.declared.Moved.{Moved}
 use Rattle.fields.specs.declared.Field.{Field}
 use Rattle.fields.specs.declared.Field.the-variants.{Read, No}
-use Rattle.fields.specs.declared.FirstLine.{FirstLine}
-use Rattle.fields.specs.declared.FirstLine.the-variants.{Bound, Refused}
+use Rattle.lines.specs.declared.FirstLine.{FirstLine}
+use Rattle.lines.specs.declared.FirstLine.the-variants.{Bound, Refused}
 
 -- 'A field that cannot be read ends the job with its number'; else the rest is read from where the cursor went
 unfoldable pub then : Field → Cursor → (Cursor → FirstLine) → FirstLine

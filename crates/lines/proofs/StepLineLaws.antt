@@ -1,17 +1,17 @@
 -- Laws of the step line: a field that is refused ends it, one that is read goes on; a name is new or is not; a test chooses.
-use mathlib.Core.Path.{_≡_, refl, sym, ap, _∙_}
+use mathlib.Core.Path.{_≡_, sym, ap, _∙_}
 use mathlib.Core.Bool.{Bool, true, false}
 use Prim.Native.Nat.{ℕ}
 use Rattle.scan.specs.declared.Found.{Found}
 use Rattle.scan.specs.declared.Found.the-variants.{At, Nothing}
 use Rattle.fields.specs.Fields.{numberOf}
-use Rattle.fields.specs.StepLine.{then, after, fresh, pick}
+use Rattle.lines.specs.StepLine.{then, after, fresh, pick}
 use Rattle.fields.specs.declared.Cursor.{Cursor}
 use Rattle.fields.specs.declared.Moved.{Moved}
 use Rattle.fields.specs.declared.Field.{Field}
 use Rattle.fields.specs.declared.Field.the-variants.{Read, No}
-use Rattle.fields.specs.declared.StepLine.{StepLine}
-use Rattle.fields.specs.declared.StepLine.the-variants.{Line, Refused}
+use Rattle.lines.specs.declared.StepLine.{StepLine}
+use Rattle.lines.specs.declared.StepLine.the-variants.{Refused}
 
 pub after-no : (m m′ : Moved) (rest : Cursor → StepLine) (n r : ℕ)
     → m ≡ m′ → m .field ≡ No n → r ≡ numberOf (m .field) → Refused r ≡ after m′ rest

@@ -1,14 +1,14 @@
 -- `goto_line` reads ` goto ` and L, and then the end or, of an if, ` else ` and M.
-use Rattle.fields.proofs.StepLineLaws.{after-no, after-read, picked, passed}
-use Rattle.fields.specs.StepLine.{gotoLine}
+use Rattle.lines.proofs.StepLineLaws.{after-no, after-read, picked, passed}
+use Rattle.lines.specs.StepLine.{gotoLine}
 use borrow.Author.Tests.{eq-eqb, ne-eqb}
 use mathlib.Core.Path.{_∙_}
 use borrow.Author.Needs.{needs}
-use Rattle.fields.proofs.goto_line.Statement.{statement}
-use Rattle.fields.proofs.goto_line.Tie as tie
+use Rattle.lines.proofs.goto_line.Statement.{statement}
+use Rattle.lines.proofs.goto_line.Tie as tie
 
-goto-word-requires : tie.Need-goto-word-requires
-goto-word-requires c κs = search needs
+goto-word-at-requires : tie.Need-goto-word-at-requires
+goto-word-at-requires c κs = search needs
 
 enum-told : tie.Need-enum-told
 enum-told c = search needs
@@ -22,12 +22,12 @@ number-requires c κs = search needs
 returns : tie.Need-returns
 unfolding gotoLine
 returns c =
-    let goto-word′ = c .before .before .before .goto-word in
+    let goto-word-at′ = c .before .before .before .goto-word-at in
     let enum-told2′ = c .before .enum-told2 in
-    after-no (goto-word′ .result) _ _ (enum-told2′ .given .0 .0) _ (goto-word′ .ensures) (enum-told2′ .given .1) (c .number .ensures)
+    after-no (goto-word-at′ .result) _ _ (enum-told2′ .given .0 .0) _ (goto-word-at′ .ensures) (enum-told2′ .given .1) (c .number .ensures)
 
-to-label-requires : tie.Need-to-label-requires
-to-label-requires c κs = search needs
+to-label-at-requires : tie.Need-to-label-at-requires
+to-label-at-requires c κs = search needs
 
 enum-told-3 : tie.Need-enum-told-3
 enum-told-3 c = search needs
@@ -41,12 +41,12 @@ number-requires-2 c κs = search needs
 returns-2 : tie.Need-returns-2
 unfolding gotoLine
 returns-2 c =
-    let goto-word′ = c .before .before .before .before .before .before .before .goto-word in
+    let goto-word-at′ = c .before .before .before .before .before .before .before .goto-word-at in
     let enum-told′ = c .before .before .before .before .before .enum-told in
-    let to-label′ = c .before .before .before .to-label in
+    let to-label-at′ = c .before .before .before .to-label-at in
     let enum-told4′ = c .before .enum-told4 in
-    after-no (to-label′ .result) _ _ (enum-told4′ .given .0 .0) _ (to-label′ .ensures) (enum-told4′ .given .1) (c .number2 .ensures)
-    ∙ after-read (goto-word′ .result) _ _ (goto-word′ .ensures) (enum-told′ .given .1)
+    after-no (to-label-at′ .result) _ _ (enum-told4′ .given .0 .0) _ (to-label-at′ .ensures) (enum-told4′ .given .1) (c .number2 .ensures)
+    ∙ after-read (goto-word-at′ .result) _ _ (goto-word-at′ .ensures) (enum-told′ .given .1)
 
 else-line-requires : tie.Need-else-line-requires
 else-line-requires c κs = search needs
@@ -57,35 +57,35 @@ end-line-requires c κs = search needs
 returns-3 : tie.Need-returns-3
 unfolding gotoLine
 returns-3 c =
-    let goto-word′ = c .before .before .before .before .before .before .before .before .before .before .goto-word in
+    let goto-word-at′ = c .before .before .before .before .before .before .before .before .before .before .goto-word-at in
     let enum-told′ = c .before .before .before .before .before .before .before .before .enum-told in
-    let to-label′ = c .before .before .before .before .before .before .to-label in
+    let to-label-at′ = c .before .before .before .before .before .before .to-label-at in
     let enum-told3′ = c .before .before .before .before .enum-told3 in
     c .else-line .ensures ∙ picked _ _ _ (eq-eqb _ _ (c .before .if1 .taken))
-    ∙ after-read (to-label′ .result) _ _ (to-label′ .ensures) (enum-told3′ .given .1)
-    ∙ after-read (goto-word′ .result) _ _ (goto-word′ .ensures) (enum-told′ .given .1)
+    ∙ after-read (to-label-at′ .result) _ _ (to-label-at′ .ensures) (enum-told3′ .given .1)
+    ∙ after-read (goto-word-at′ .result) _ _ (goto-word-at′ .ensures) (enum-told′ .given .1)
 
 returns-4 : tie.Need-returns-4
 unfolding gotoLine
 returns-4 c =
-    let goto-word′ = c .before .before .before .before .before .before .before .before .before .before .goto-word in
+    let goto-word-at′ = c .before .before .before .before .before .before .before .before .before .before .goto-word-at in
     let enum-told′ = c .before .before .before .before .before .before .before .before .enum-told in
-    let to-label′ = c .before .before .before .before .before .before .to-label in
+    let to-label-at′ = c .before .before .before .before .before .before .to-label-at in
     let enum-told3′ = c .before .before .before .before .enum-told3 in
     c .end-line .ensures ∙ passed _ _ _ (ne-eqb _ _ (c .before .if1 .left))
-    ∙ after-read (to-label′ .result) _ _ (to-label′ .ensures) (enum-told3′ .given .1)
-    ∙ after-read (goto-word′ .result) _ _ (goto-word′ .ensures) (enum-told′ .given .1)
+    ∙ after-read (to-label-at′ .result) _ _ (to-label-at′ .ensures) (enum-told3′ .given .1)
+    ∙ after-read (goto-word-at′ .result) _ _ (goto-word-at′ .ensures) (enum-told′ .given .1)
 
 pub goto-line-spec : {M : Type 1} → statement M
 goto-line-spec =
     tie.close
     (tie.spec
-    goto-word-requires
+    goto-word-at-requires
     enum-told
     enum-told-2
     number-requires
     returns
-    to-label-requires
+    to-label-at-requires
     enum-told-3
     enum-told-4
     number-requires-2

@@ -1,5 +1,5 @@
 -- What line 1 and a step line say lies in range: R from 1 to 99, a kind from 1 to 4, a value where the kind has one.
-use mathlib.Core.Path.{_≡_, refl, sym, ap, _∙_, subst}
+use mathlib.Core.Path.{_≡_, refl, ap, _∙_, subst}
 use mathlib.Core.Bool.{Bool, true, false, cond}
 use mathlib.Core.List.{List}
 use Prim.Native.Nat.{ℕ, _+_, _*_, _-_, _≤_}
@@ -9,30 +9,31 @@ use lib.ListN.{drop}
 use Rattle.lists.specs.Rows.{num}
 use Rattle.lists.specs.Tests.{every, within}
 use Rattle.lists.proofs.TestLaws.{is-within, within-is}
+use Rattle.job.specs.Limits.{maxBound}
 use Rattle.scan.specs.Bytes.{starts}
 use Rattle.scan.specs.declared.Found.{Found}
 use Rattle.scan.specs.declared.Found.the-variants.{At, Nothing}
 use Rattle.fields.specs.Fields.{pickField, went, refuse, digit, rangeField}
-use Rattle.fields.specs.FirstLine.{valueOf, numberAt, firstLine}
-use Rattle.fields.specs.FirstLine.{then as thenFirst, after as afterFirst}
-use Rattle.fields.specs.StepLine.{then, after, pick, fresh, begun, bitOf, elseLine, endLine, gotoLine, testLine, kindLine, stepLine, on, maybeWord, criticalWord, ifWord}
+use Rattle.lines.specs.FirstLine.{valueOf, numberAt, firstLine}
+use Rattle.lines.specs.FirstLine.{then as thenFirst, after as afterFirst}
+use Rattle.lines.specs.StepLine.{then, after, pick, fresh, begun, bitOf, elseLine, endLine, gotoLine, testLine, kindLine, stepLine, on, maybeWord, criticalWord, ifWord}
 use Rattle.fields.specs.declared.Cursor.{Cursor}
 use Rattle.fields.specs.declared.Moved.{Moved}
 use Rattle.fields.specs.declared.Field.{Field}
 use Rattle.fields.specs.declared.Field.the-variants.{Read, No}
-use Rattle.fields.specs.declared.FirstLine.{FirstLine}
-use Rattle.fields.specs.declared.FirstLine.the-variants.{Bound}
-use Rattle.fields.specs.declared.FirstLine.the-variants.{Refused as WrongLine}
-use Rattle.fields.specs.declared.Step.{Step}
-use Rattle.fields.specs.declared.StepLine.{StepLine}
-use Rattle.fields.specs.declared.StepLine.the-variants.{Line, Refused}
+use Rattle.lines.specs.declared.FirstLine.{FirstLine}
+use Rattle.lines.specs.declared.FirstLine.the-variants.{Bound}
+use Rattle.lines.specs.declared.FirstLine.the-variants.{Refused as WrongLine}
+use Rattle.lines.specs.declared.Step.{Step}
+use Rattle.lines.specs.declared.StepLine.{StepLine}
+use Rattle.lines.specs.declared.StepLine.the-variants.{Line, Refused}
 use Rattle.fields.proofs.CursorLaws.{not-read}
-use Rattle.fields.proofs.FirstLineLaws.{value-most}
+use Rattle.lines.proofs.FirstLineLaws.{value-most}
 
 -- ---- line 1
 
 abbrev Ranged : FirstLine → Type 0
-Ranged (Bound r) = within 1 99 r ≡ true
+Ranged (Bound r) = within 1 maxBound r ≡ true
 Ranged (WrongLine n) = Unit {0}
 
 after-ranged : (m : Moved) (rest : Cursor → FirstLine) → (m .field ≡ Read → Ranged (rest (m .at))) → Ranged (afterFirst m rest)
@@ -57,25 +58,21 @@ value-least b h =
     let i = is-within 49 57 b h in
     rw (within-is 48 57 b (omega arith) (i .1)) (omega arith)
 
-number-ranged : (s : List ℕ) (column : ℕ) → within 49 57 (num s column) ≡ true → within 1 99 (numberAt s column) ≡ true
+number-ranged : (s : List ℕ) (column : ℕ) → within 49 57 (num s column) ≡ true → within 1 maxBound (numberAt s column) ≡ true
 unfolding numberAt
-number-ranged s column h =
-    let a = value-least (num s column) h in
-    let b = value-most (num s column) in
-    let c = value-most (num s (column + 1)) in
-    go (digit (num s (column + 1)))
+number-ranged s column h = go (digit (num s (column + 1)))
   where
-    go : (b : Bool) → within 1 99 (cond b (valueOf (num s column) * 10 + valueOf (num s (column + 1))) (valueOf (num s column))) ≡ true
+    go : (b : Bool) → within 1 maxBound (cond b (valueOf (num s column) * 10 + valueOf (num s (column + 1))) (valueOf (num s column))) ≡ true
     go true =
-        within-is 1 99 (valueOf (num s column) * 10 + valueOf (num s (column + 1)))
+        within-is 1 maxBound (valueOf (num s column) * 10 + valueOf (num s (column + 1)))
         (omega (arith, value-least (num s column) h))
         (omega (arith, value-most (num s column), value-most (num s (column + 1))))
     go false =
-        within-is 1 99 (valueOf (num s column))
+        within-is 1 maxBound (valueOf (num s column))
         (omega (arith, value-least (num s column) h))
         (omega (arith, value-most (num s column)))
 
-pub bound-ranged : (s : List ℕ) (at : Cursor) (r : ℕ) → firstLine s at ≡ Bound r → within 1 99 r ≡ true
+pub bound-ranged : (s : List ℕ) (at : Cursor) (r : ℕ) → firstLine s at ≡ Bound r → within 1 maxBound r ≡ true
 unfolding firstLine
 bound-ranged s at r e =
     subst (λ (l : FirstLine). Ranged l) e

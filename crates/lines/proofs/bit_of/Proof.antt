@@ -1,8 +1,8 @@
 -- `bit_of` gives the value of v.
-use Rattle.fields.specs.StepLine.{bitOf}
+use Rattle.lines.specs.StepLine.{bitOf}
 use borrow.Author.Tests.{eq-eqb, ne-eqb}
-use Rattle.fields.proofs.bit_of.Statement.{statement}
-use Rattle.fields.proofs.bit_of.Tie as tie
+use Rattle.lines.proofs.bit_of.Statement.{statement}
+use Rattle.lines.proofs.bit_of.Tie as tie
 
 returns : tie.Need-returns
 unfolding bitOf

@@ -1,10 +1,10 @@
 -- `number_at` gives R by its digits, of which there are one or two.
-use Rattle.fields.proofs.FirstLineLaws.{value-most, number-two, number-one}
+use Rattle.lines.proofs.FirstLineLaws.{value-most, number-two, number-one}
 use native.Mathlib.Omega.{arith}
 use mathlib.Core.Path.{sym, _∙_}
 use borrow.Author.Needs.{needs}
-use Rattle.fields.proofs.number_at.Statement.{statement}
-use Rattle.fields.proofs.number_at.Tie as tie
+use Rattle.lines.proofs.number_at.Statement.{statement}
+use Rattle.lines.proofs.number_at.Tie as tie
 
 byte-at-requires : tie.Need-byte-at-requires
 byte-at-requires c κs = search needs

@@ -1,11 +1,11 @@
 -- `value` gives a digit's value.
-use Rattle.fields.specs.FirstLine.{valueOf}
+use Rattle.lines.specs.FirstLine.{valueOf}
 use Rattle.lists.proofs.TestLaws.{is-within}
 use native.Mathlib.Omega.{arith}
 use mathlib.Core.Path.{sym, _∙_}
 use borrow.Author.Needs.{needs}
-use Rattle.fields.proofs.value.Statement.{statement}
-use Rattle.fields.proofs.value.Tie as tie
+use Rattle.lines.proofs.value.Statement.{statement}
+use Rattle.lines.proofs.value.Tie as tie
 
 is-digit-requires : tie.Need-is-digit-requires
 is-digit-requires c κs = search needs
