@@ -11,9 +11,9 @@ use fields::Moved;
 fn read_name(s: &[u8], at: &mut Cursor) -> Field
     ensures { λ r. ⌜ (r ≡ nameField (now (s .entry)) (now (at .entry)) .field) × (now (at .exit) ≡ nameField (now (s .entry)) (now (at .entry)) .at) ⌝ }
 {
-    let m = fields::name(s, *at);
-    *at = m.at;
-    m.field
+    let name = fields::name(s, *at);
+    *at = name.at;
+    name.field
 }
 
 pub fn name_at(s: &[u8], line: usize, column: usize) -> Moved
@@ -27,9 +27,9 @@ pub fn name_at(s: &[u8], line: usize, column: usize) -> Moved
 fn read_space(s: &[u8], at: &mut Cursor) -> Field
     ensures { λ r. ⌜ (r ≡ spaceField (now (s .entry)) (now (at .entry)) .field) × (now (at .exit) ≡ spaceField (now (s .entry)) (now (at .entry)) .at) ⌝ }
 {
-    let m = fields::space(s, *at);
-    *at = m.at;
-    m.field
+    let space = fields::space(s, *at);
+    *at = space.at;
+    space.field
 }
 
 pub fn space_at(s: &[u8], line: usize, column: usize) -> Moved
@@ -43,9 +43,9 @@ pub fn space_at(s: &[u8], line: usize, column: usize) -> Moved
 fn read_variable(s: &[u8], at: &mut Cursor) -> Field
     ensures { λ r. ⌜ (r ≡ variableField (now (s .entry)) (now (at .entry)) .field) × (now (at .exit) ≡ variableField (now (s .entry)) (now (at .entry)) .at) ⌝ }
 {
-    let m = fields::variable(s, *at);
-    *at = m.at;
-    m.field
+    let variable = fields::variable(s, *at);
+    *at = variable.at;
+    variable.field
 }
 
 pub fn variable_at(s: &[u8], line: usize, column: usize) -> Moved
@@ -59,9 +59,9 @@ pub fn variable_at(s: &[u8], line: usize, column: usize) -> Moved
 fn read_equals(s: &[u8], at: &mut Cursor) -> Field
     ensures { λ r. ⌜ (r ≡ equalsField (now (s .entry)) (now (at .entry)) .field) × (now (at .exit) ≡ equalsField (now (s .entry)) (now (at .entry)) .at) ⌝ }
 {
-    let m = fields::equals(s, *at);
-    *at = m.at;
-    m.field
+    let equals = fields::equals(s, *at);
+    *at = equals.at;
+    equals.field
 }
 
 pub fn equals_at(s: &[u8], line: usize, column: usize) -> Moved
@@ -75,9 +75,9 @@ pub fn equals_at(s: &[u8], line: usize, column: usize) -> Moved
 fn read_bit(s: &[u8], at: &mut Cursor) -> Field
     ensures { λ r. ⌜ (r ≡ bitField (now (s .entry)) (now (at .entry)) .field) × (now (at .exit) ≡ bitField (now (s .entry)) (now (at .entry)) .at) ⌝ }
 {
-    let m = fields::bit(s, *at);
-    *at = m.at;
-    m.field
+    let bit = fields::bit(s, *at);
+    *at = bit.at;
+    bit.field
 }
 
 pub fn bit_at(s: &[u8], line: usize, column: usize) -> Moved
@@ -91,9 +91,9 @@ pub fn bit_at(s: &[u8], line: usize, column: usize) -> Moved
 fn read_goto_word(s: &[u8], at: &mut Cursor) -> Field
     ensures { λ r. ⌜ (r ≡ gotoField (now (s .entry)) (now (at .entry)) .field) × (now (at .exit) ≡ gotoField (now (s .entry)) (now (at .entry)) .at) ⌝ }
 {
-    let m = fields::goto_word(s, *at);
-    *at = m.at;
-    m.field
+    let goto_word = fields::goto_word(s, *at);
+    *at = goto_word.at;
+    goto_word.field
 }
 
 pub fn goto_word_at(s: &[u8], line: usize, column: usize) -> Moved
@@ -107,9 +107,9 @@ pub fn goto_word_at(s: &[u8], line: usize, column: usize) -> Moved
 fn read_to_label(s: &[u8], at: &mut Cursor) -> Field
     ensures { λ r. ⌜ (r ≡ toField (now (s .entry)) (now (at .entry)) .field) × (now (at .exit) ≡ toField (now (s .entry)) (now (at .entry)) .at) ⌝ }
 {
-    let m = fields::to_label(s, *at);
-    *at = m.at;
-    m.field
+    let to_label = fields::to_label(s, *at);
+    *at = to_label.at;
+    to_label.field
 }
 
 pub fn to_label_at(s: &[u8], line: usize, column: usize) -> Moved
@@ -123,9 +123,9 @@ pub fn to_label_at(s: &[u8], line: usize, column: usize) -> Moved
 fn read_else_word(s: &[u8], at: &mut Cursor) -> Field
     ensures { λ r. ⌜ (r ≡ elseField (now (s .entry)) (now (at .entry)) .field) × (now (at .exit) ≡ elseField (now (s .entry)) (now (at .entry)) .at) ⌝ }
 {
-    let m = fields::else_word(s, *at);
-    *at = m.at;
-    m.field
+    let else_word = fields::else_word(s, *at);
+    *at = else_word.at;
+    else_word.field
 }
 
 pub fn else_word_at(s: &[u8], line: usize, column: usize) -> Moved
@@ -139,9 +139,9 @@ pub fn else_word_at(s: &[u8], line: usize, column: usize) -> Moved
 fn read_other_label(s: &[u8], at: &mut Cursor) -> Field
     ensures { λ r. ⌜ (r ≡ otherField (now (s .entry)) (now (at .entry)) .field) × (now (at .exit) ≡ otherField (now (s .entry)) (now (at .entry)) .at) ⌝ }
 {
-    let m = fields::other_label(s, *at);
-    *at = m.at;
-    m.field
+    let other_label = fields::other_label(s, *at);
+    *at = other_label.at;
+    other_label.field
 }
 
 pub fn other_label_at(s: &[u8], line: usize, column: usize) -> Moved
@@ -155,9 +155,9 @@ pub fn other_label_at(s: &[u8], line: usize, column: usize) -> Moved
 fn read_step_end(s: &[u8], at: &mut Cursor) -> Field
     ensures { λ r. ⌜ (r ≡ stepEndField (now (s .entry)) (now (at .entry)) .field) × (now (at .exit) ≡ stepEndField (now (s .entry)) (now (at .entry)) .at) ⌝ }
 {
-    let m = fields::step_end(s, *at);
-    *at = m.at;
-    m.field
+    let step_end = fields::step_end(s, *at);
+    *at = step_end.at;
+    step_end.field
 }
 
 pub fn step_end_at(s: &[u8], line: usize, column: usize) -> Moved
@@ -171,9 +171,9 @@ pub fn step_end_at(s: &[u8], line: usize, column: usize) -> Moved
 fn read_bound_word(s: &[u8], at: &mut Cursor) -> Field
     ensures { λ r. ⌜ (r ≡ boundField (now (s .entry)) (now (at .entry)) .field) × (now (at .exit) ≡ boundField (now (s .entry)) (now (at .entry)) .at) ⌝ }
 {
-    let m = fields::bound_word(s, *at);
-    *at = m.at;
-    m.field
+    let bound_word = fields::bound_word(s, *at);
+    *at = bound_word.at;
+    bound_word.field
 }
 
 pub fn bound_word_at(s: &[u8], line: usize, column: usize) -> Moved
@@ -187,9 +187,9 @@ pub fn bound_word_at(s: &[u8], line: usize, column: usize) -> Moved
 fn read_range(s: &[u8], at: &mut Cursor) -> Field
     ensures { λ r. ⌜ (r ≡ rangeField (now (s .entry)) (now (at .entry)) .field) × (now (at .exit) ≡ rangeField (now (s .entry)) (now (at .entry)) .at) ⌝ }
 {
-    let m = fields::range(s, *at);
-    *at = m.at;
-    m.field
+    let range = fields::range(s, *at);
+    *at = range.at;
+    range.field
 }
 
 pub fn range_at(s: &[u8], line: usize, column: usize) -> Moved
@@ -203,9 +203,9 @@ pub fn range_at(s: &[u8], line: usize, column: usize) -> Moved
 fn read_bound_end(s: &[u8], at: &mut Cursor) -> Field
     ensures { λ r. ⌜ (r ≡ boundEndField (now (s .entry)) (now (at .entry)) .field) × (now (at .exit) ≡ boundEndField (now (s .entry)) (now (at .entry)) .at) ⌝ }
 {
-    let m = fields::bound_end(s, *at);
-    *at = m.at;
-    m.field
+    let bound_end = fields::bound_end(s, *at);
+    *at = bound_end.at;
+    bound_end.field
 }
 
 pub fn bound_end_at(s: &[u8], line: usize, column: usize) -> Moved

@@ -34,7 +34,11 @@ pub enum StepLine {
 fn value(b: u8) -> usize
     ensures { λ r. ⌜ r ≡ valueOf b ⌝ }
 {
-    if fields::is_digit(b) { b as usize - 48 } else { 0 }
+    if fields::is_digit(b) {
+        b as usize - 48
+    } else {
+        0
+    }
 }
 
 fn number_at(s: &[u8], column: usize) -> usize

@@ -10,11 +10,11 @@ ghost use Rattle.program.specs.ProgramLine.{isLemmas, numberOf, programL
 ghost use Rattle.program.specs.Program.{refuse, stop, program as programFrom, wrongOf, programOf};
 use fields::Cursor;
 use fields::Field;
+use job::Job;
+use job::Program;
 use lines::FirstLine;
 use lines::Step;
 use lines::StepLine;
-use job::Job;
-use job::Program;
 use scan::Found;
 
 // The table while its program is read. Labels L and M stay names, and each step keeps its line, until `lemmas`.
