@@ -1,6 +1,6 @@
 // The field readers as document 01 has them, 'Every field reader is lent the line and column count and moves it on': each is
-// the covered reader of `fields`, lent the cursor. Above each stands one that makes the cursor of a line and a column, so
-// that whoever calls it holds no borrow of a struct.
+// that of `fields`, which takes the cursor by value, lent the cursor. Above each stands one that makes the cursor of a line
+// and a column, so that whoever calls it lends none.
 ghost use mathlib.Core.Path.{_≡_};
 ghost use Rattle.fields.specs.Fields.{nameField, spaceField, variableField, equalsField, bitField, gotoField, toField};
 ghost use Rattle.fields.specs.Fields.{elseField, otherField, stepEndField, boundField, rangeField, boundEndField};
