@@ -11,7 +11,7 @@ use lib.ListN.{length, drop, length-drop}
 use Rattle.lists.specs.Rows.{num}
 use Rattle.lists.specs.Tests.{within}
 use Rattle.lists.proofs.TestLaws.{is-within}
-use Rattle.scan.specs.Bytes.{wordAt, upTo, headed, starts}
+use Rattle.scan.specs.Bytes.{wordAt, headed, starts}
 use Rattle.scan.proofs.WordLaws.{byte-in, starts-fits}
 use Rattle.fields.specs.Fields.{pickField, wordField, refuse, went, rangeField, digit}
 use Rattle.fields.specs.declared.Cursor.{Cursor}

@@ -1,8 +1,8 @@
 -- Laws of fields: one law for each way out of a field reader.
-use mathlib.Core.Path.{_≡_, refl, sym, ap, _∙_}
-use mathlib.Core.Bool.{Bool, true, false, _&&_, _||_}
-use mathlib.Core.List.{List, [], _∷_}
-use Prim.Native.Nat.{ℕ, suc, _+_, _-_, _≤_, _<_}
+use mathlib.Core.Path.{_≡_, sym, ap, _∙_}
+use mathlib.Core.Bool.{Bool, true, false, _&&_}
+use mathlib.Core.List.{List}
+use Prim.Native.Nat.{ℕ, _+_, _-_, _≤_, _<_}
 use native.Mathlib.Omega.{arith}
 use native.Mathlib.Numerals.{add-one}
 use borrow.Author.Tests.{lt-ltb, le-ltb, le-leb, lt-leb}
@@ -10,13 +10,11 @@ use lib.ListN.{length, getD, drop, take, drop-of-length-le, length-take}
 use lib.Seq.{slice, slice-cons}
 use Rattle.lists.specs.Rows.{num}
 use Rattle.lists.specs.Tests.{within}
-use Rattle.lists.proofs.TestLaws.{within-under, within-over, within-is}
-use Rattle.scan.specs.Bytes.{wordAt, allOf, alnum, headed, starts, upTo}
+use Rattle.scan.specs.Bytes.{wordAt, allOf, alnum, headed, starts}
 use Rattle.scan.proofs.WordLaws.{word-part}
 use Rattle.fields.specs.Fields.{wordField, refuse, went, fixedField, endField, bitField, rangeField, digit}
 use Rattle.fields.specs.declared.Cursor.{Cursor}
-use Rattle.fields.specs.declared.Moved.{Moved}
-use Rattle.fields.specs.declared.Field.the-variants.{Read, No}
+use Rattle.fields.specs.declared.Field.the-variants.{Read}
 
 -- ---- all bytes of a part
 

@@ -1,6 +1,3 @@
--- The laws of the definitions, by file of the definitions.
+-- The laws of the definitions: the ways out of a field reader, and where the cursor then stands.
 pub mod FieldLaws
 pub mod CursorLaws
-pub mod FirstLineLaws
-pub mod StepLineLaws
-pub mod ShapeLaws

@@ -1,12 +1,12 @@
 -- The fields of a line (document 01, 'The job text'): each gives its answer and the cursor, moved on where the field is read.
 use Prim.Native.Nat.{ℕ, _+_}
-use mathlib.Core.Bool.{Bool, true, false, _&&_, cond}
+use mathlib.Core.Bool.{Bool, true, false, cond}
 use mathlib.Core.List.{List, [], _∷_}
 use lib.Dec.{leb, ltb}
 use lib.ListN.{length, drop}
 use Rattle.lists.specs.Rows.{num}
 use Rattle.lists.specs.Tests.{within}
-use Rattle.scan.specs.Bytes.{upTo, wordAt, headed, starts, plain}
+use Rattle.scan.specs.Bytes.{wordAt, headed, starts, plain}
 use Rattle.scan.specs.Lines.{Row}
 use Rattle.fields.specs.declared.Cursor.{Cursor}
 use Rattle.fields.specs.declared.Moved.{Moved}

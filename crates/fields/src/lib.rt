@@ -1,17 +1,13 @@
-// The field readers, each lent the line and handed a cursor, and line 1 and the step line made of them.
+// The field readers, each lent the line and handed a cursor by value: `lent` has them lent the cursor.
 ghost use mathlib.Core.Path.{_≡_};
-ghost use Prim.Native.Nat.{ℕ, _-_, _≤_, _<_};
+ghost use Prim.Native.Nat.{_-_, _≤_};
 ghost use lib.ListN.{length};
 ghost use lib.Seq.{slice};
-ghost use Rattle.lists.specs.Rows.{num};
 ghost use Rattle.scan.specs.Bytes.{alnum as isAlnum, allOf, headed};
 ghost use Rattle.fields.specs.Fields.{numberOf, wordField, nameField, variableField, toField, otherField};
 ghost use Rattle.fields.specs.Fields.{fixedField, spaceField, equalsField, gotoField, elseField, boundField};
 ghost use Rattle.fields.specs.Fields.{digit as isDigit, bitField, rangeField, endField, stepEndField, boundEndField, wholeLine};
 ghost use Rattle.scan.specs.Lines.{row};
-ghost use Rattle.fields.specs.FirstLine.{valueOf, numberAt, firstLine};
-ghost use Rattle.fields.specs.StepLine.{begun as begunStep, bitOf, elseLine, endLine, gotoLine, testLine, kindLine, stepLine};
-use scan::Found;
 
 // A place in a text: the line's number, and a column of the line.
 pub struct Cursor {
@@ -73,29 +69,6 @@ impl Field {
 pub struct Moved {
     pub field: Field,
     pub at: Cursor,
-}
-
-// What line 1 says: R.
-pub enum FirstLine {
-    Bound(usize),
-    Refused(u8),
-}
-
-// What a step line says: its kind, where its name ends, V's columns, v, L's columns, and where M starts.
-pub struct Step {
-    pub kind: u8,
-    pub name: usize,
-    pub variable: usize,
-    pub equals: usize,
-    pub value: u8,
-    pub to: usize,
-    pub end: usize,
-    pub other: usize,
-}
-
-pub enum StepLine {
-    Line(Step),
-    Refused(u8),
 }
 
 fn alnum(b: u8) -> bool
@@ -333,7 +306,7 @@ pub fn range(s: &[u8], at: Cursor) -> Moved
     }
 }
 
-fn is_digit(b: u8) -> bool
+pub fn is_digit(b: u8) -> bool
     ensures { λ r. ⌜ r ≡ isDigit b ⌝ }
 {
     if b < b'0' { false } else { b <= b'9' }
@@ -378,25 +351,6 @@ pub fn number(f: Field) -> u8
     }
 }
 
-fn value(b: u8) -> usize
-    ensures { λ r. ⌜ r ≡ valueOf b ⌝ }
-{
-    if is_digit(b) { b as usize - 48 } else { 0 }
-}
-
-fn number_at(s: &[u8], column: usize) -> usize
-    requires { ⌜ column < length (now s) ⌝ }
-    ensures { λ r. ⌜ r ≡ numberAt (now (s .entry)) column ⌝ }
-{
-    let a = scan::byte_at(s, column);
-    let b = scan::byte_at(s, column + 1);
-    if is_digit(b) {
-        value(a) * 10 + value(b)
-    } else {
-        value(a)
-    }
-}
-
 // The line as a whole, whose LF is there or not.
 pub fn line(s: &[u8], ended: bool) -> Field
     ensures { λ r. ⌜ r ≡ wholeLine (row (now (s .entry)) ended) ⌝ }
@@ -412,212 +366,4 @@ pub fn line(s: &[u8], ended: bool) -> Field
     } else {
         Field::No(Field::LINE_OPEN)
     }
-}
-
-// Line 1: `bound R`.
-pub fn first_line(s: &[u8], at: Cursor) -> FirstLine
-    ensures { λ r. ⌜ r ≡ firstLine (now (s .entry)) at ⌝ }
-{
-    let m = bound_word(s, at);
-    let f = m.field;
-    let Field::Read = f else {
-        return FirstLine::Refused(number(f));
-    };
-    let a = m.at;
-    let n = range(s, a);
-    let g = n.field;
-    let Field::Read = g else {
-        return FirstLine::Refused(number(g));
-    };
-    let o = bound_end(s, n.at);
-    let h = o.field;
-    let Field::Read = h else {
-        return FirstLine::Refused(number(h));
-    };
-    FirstLine::Bound(number_at(s, a.column))
-}
-
-fn else_line(s: &[u8], at: Cursor, p: Step) -> StepLine
-    ensures { λ r. ⌜ r ≡ elseLine (now (s .entry)) at p ⌝ }
-{
-    let m = else_word(s, at);
-    let f = m.field;
-    let Field::Read = f else {
-        return StepLine::Refused(number(f));
-    };
-    let o = m.at;
-    let n = other_label(s, o);
-    let g = n.field;
-    let Field::Read = g else {
-        return StepLine::Refused(number(g));
-    };
-    StepLine::Line(Step {
-        kind: p.kind,
-        name: p.name,
-        variable: p.variable,
-        equals: p.equals,
-        value: p.value,
-        to: p.to,
-        end: p.end,
-        other: o.column,
-    })
-}
-
-fn end_line(s: &[u8], at: Cursor, p: Step) -> StepLine
-    ensures { λ r. ⌜ r ≡ endLine (now (s .entry)) at p ⌝ }
-{
-    let m = step_end(s, at);
-    let f = m.field;
-    let Field::Read = f else {
-        return StepLine::Refused(number(f));
-    };
-    StepLine::Line(p)
-}
-
-fn goto_line(s: &[u8], at: Cursor, p: Step) -> StepLine
-    ensures { λ r. ⌜ r ≡ gotoLine (now (s .entry)) at p ⌝ }
-{
-    let m = goto_word(s, at);
-    let f = m.field;
-    let Field::Read = f else {
-        return StepLine::Refused(number(f));
-    };
-    let l = m.at;
-    let n = to_label(s, l);
-    let g = n.field;
-    let Field::Read = g else {
-        return StepLine::Refused(number(g));
-    };
-    let e = n.at;
-    let q = Step {
-        kind: p.kind,
-        name: p.name,
-        variable: p.variable,
-        equals: p.equals,
-        value: p.value,
-        to: l.column,
-        end: e.column,
-        other: 0,
-    };
-    if p.kind == 4 {
-        else_line(s, e, q)
-    } else {
-        end_line(s, e, q)
-    }
-}
-
-fn bit_of(b: u8) -> u8
-    ensures { λ r. ⌜ r ≡ bitOf b ⌝ }
-{
-    if b == b'1' { 1 } else { 0 }
-}
-
-fn test_line(s: &[u8], at: Cursor, p: Step) -> StepLine
-    ensures { λ r. ⌜ r ≡ testLine (now (s .entry)) at p ⌝ }
-{
-    let m = variable(s, at);
-    let f = m.field;
-    let Field::Read = f else {
-        return StepLine::Refused(number(f));
-    };
-    let a = m.at;
-    let n = equals(s, a);
-    let g = n.field;
-    let Field::Read = g else {
-        return StepLine::Refused(number(g));
-    };
-    let b = n.at;
-    let o = bit(s, b);
-    let h = o.field;
-    let Field::Read = h else {
-        return StepLine::Refused(number(h));
-    };
-    let v = bit_of(scan::byte_at(s, b.column));
-    let q = Step {
-        kind: p.kind,
-        name: p.name,
-        variable: at.column,
-        equals: a.column,
-        value: v,
-        to: 0,
-        end: 0,
-        other: 0,
-    };
-    goto_line(s, o.at, q)
-}
-
-fn begun(kind: u8, name: usize) -> Step
-    ensures { λ r. ⌜ r ≡ begunStep kind name ⌝ }
-{
-    Step {
-        kind,
-        name,
-        variable: 0,
-        equals: 0,
-        value: 0,
-        to: 0,
-        end: 0,
-        other: 0,
-    }
-}
-
-fn kind_line(s: &[u8], b: Cursor, name: usize) -> StepLine
-    ensures { λ r. ⌜ r ≡ kindLine (now (s .entry)) b name ⌝ }
-{
-    let at = b.column;
-    if scan::follows(s, at, b"maybe ") {
-        return goto_line(
-            s,
-            Cursor {
-                line: b.line,
-                column: at + 5,
-            },
-            begun(1, name),
-        );
-    }
-    if scan::follows(s, at, b"critical ") {
-        return goto_line(
-            s,
-            Cursor {
-                line: b.line,
-                column: at + 8,
-            },
-            begun(2, name),
-        );
-    }
-    if scan::follows(s, at, b"if ") {
-        return test_line(
-            s,
-            Cursor {
-                line: b.line,
-                column: at + 3,
-            },
-            begun(4, name),
-        );
-    }
-    test_line(s, b, begun(3, name))
-}
-
-// A step line: its name, 12, 13, and then by kind. The steps so far have count labels.
-pub fn step_line(labels: &[u8], count: usize, s: &[u8], at: Cursor) -> StepLine
-    ensures { λ r. ⌜ r ≡ stepLine (now (labels .entry)) count (now (s .entry)) at ⌝ }
-{
-    let m = name(s, at);
-    let f = m.field;
-    let Field::Read = f else {
-        return StepLine::Refused(number(f));
-    };
-    let a = m.at;
-    let from = at.column;
-    let to = a.column;
-    let w = scan::find(labels, count, s, from, to);
-    let Found::Nothing = w else {
-        return StepLine::Refused(Field::NAME_USED);
-    };
-    let n = space(s, a);
-    let g = n.field;
-    let Field::Read = g else {
-        return StepLine::Refused(number(g));
-    };
-    kind_line(s, n.at, to)
 }

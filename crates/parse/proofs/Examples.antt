@@ -15,10 +15,10 @@ use Rattle.scan.specs.Bytes.{upTo, allOf, starts, alnum, headed}
 use Rattle.scan.specs.Lines.{push, lines}
 use Rattle.scan.specs.Names.{entryIs, lookup}
 use Rattle.fields.specs.Fields.{wordField, fixedField, bitField, rangeField, endField, wholeLine}
-use Rattle.fields.specs.FirstLine.{firstLine, numberAt, valueOf}
-use Rattle.fields.specs.FirstLine.{then as thenFirst}
-use Rattle.fields.specs.StepLine.{fresh, bitOf, elseLine, endLine, gotoLine, testLine, kindLine, stepLine}
-use Rattle.fields.specs.StepLine.{then as thenStep}
+use Rattle.lines.specs.FirstLine.{firstLine, numberAt, valueOf}
+use Rattle.lines.specs.FirstLine.{then as thenFirst}
+use Rattle.lines.specs.StepLine.{fresh, bitOf, elseLine, endLine, gotoLine, testLine, kindLine, stepLine}
+use Rattle.lines.specs.StepLine.{then as thenStep}
 use Rattle.program.specs.Draft.{blank, mentionAt, processOf, otherEnd, enter, addStep}
 use Rattle.program.specs.ProgramLine.{isLemmas, isComment, stepped, programLine}
 use Rattle.program.specs.ProgramLine.{pick as pickLined, whole as wholeProgramLine}

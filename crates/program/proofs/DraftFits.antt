@@ -22,10 +22,10 @@ use Rattle.scan.specs.declared.Found.the-variants.{At, Nothing}
 use Rattle.scan.proofs.NameLaws.{lookup-below}
 use Rattle.scan.specs.Lines.{Row}
 use Rattle.fields.specs.Fields.{wholeLine}
-use Rattle.fields.specs.declared.Step.{Step}
-use Rattle.fields.specs.declared.StepLine.{StepLine}
-use Rattle.fields.specs.declared.StepLine.the-variants.{Line, Refused}
-use Rattle.fields.proofs.ShapeLaws.{Shape, step-shaped, bound-ranged}
+use Rattle.lines.specs.declared.Step.{Step}
+use Rattle.lines.specs.declared.StepLine.{StepLine}
+use Rattle.lines.specs.declared.StepLine.the-variants.{Line, Refused}
+use Rattle.lines.proofs.ShapeLaws.{Shape, step-shaped, bound-ranged}
 use Rattle.program.specs.Draft.{blank, processOf, mentionAt, mention, enter, addStep}
 use Rattle.program.specs.ProgramLine.{stepped, programLine, lineOf}
 use Rattle.program.specs.Program.{programOf}

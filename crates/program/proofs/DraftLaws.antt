@@ -10,7 +10,7 @@ use Rattle.job.specs.Fitness.{hasVariable}
 use Rattle.scan.specs.Names.{lookup}
 use Rattle.scan.specs.declared.Found.{Found}
 use Rattle.scan.specs.declared.Found.the-variants.{At, Nothing}
-use Rattle.fields.specs.declared.Step.{Step}
+use Rattle.lines.specs.declared.Step.{Step}
 use Rattle.program.specs.Draft.{blank, mentionAt, mention, enter, addStep}
 use Rattle.program.specs.declared.Draft.{Draft}
 

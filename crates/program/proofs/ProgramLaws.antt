@@ -16,12 +16,12 @@ use Rattle.scan.specs.Lines.{Row, row, lines}
 use Rattle.scan.proofs.WordLaws.{word-fits}
 use Rattle.scan.proofs.LineLaws.{lines-at}
 use Rattle.fields.specs.Fields.{wholeLine, numberOf}
-use Rattle.fields.specs.FirstLine.{firstLine}
+use Rattle.lines.specs.FirstLine.{firstLine}
 use Rattle.fields.specs.declared.Field.{Field}
 use Rattle.fields.specs.declared.Field.the-variants.{Read, No}
-use Rattle.fields.specs.declared.FirstLine.{FirstLine}
-use Rattle.fields.specs.declared.FirstLine.the-variants.{Bound}
-use Rattle.fields.specs.declared.FirstLine.the-variants.{Refused as WrongLine}
+use Rattle.lines.specs.declared.FirstLine.{FirstLine}
+use Rattle.lines.specs.declared.FirstLine.the-variants.{Bound}
+use Rattle.lines.specs.declared.FirstLine.the-variants.{Refused as WrongLine}
 use Rattle.program.specs.Draft.{blank}
 use Rattle.program.specs.ProgramLine.{lineOf}
 use Rattle.program.specs.Program.{refuse, follow, program, opened, wrongOf, whole, fromLine1, programOf}

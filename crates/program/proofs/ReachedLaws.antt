@@ -10,13 +10,13 @@ use Rattle.lists.proofs.TestLaws.{is-within}
 use Rattle.job.specs.Limits.{maxText}
 use Rattle.scan.specs.Lines.{Row, lines}
 use Rattle.fields.specs.Fields.{wholeLine}
-use Rattle.fields.specs.FirstLine.{firstLine}
+use Rattle.lines.specs.FirstLine.{firstLine}
 use Rattle.fields.specs.declared.Field.{Field}
 use Rattle.fields.specs.declared.Field.the-variants.{Read}
 use Rattle.fields.specs.declared.Field.the-variants.{No as NoField}
-use Rattle.fields.specs.declared.FirstLine.{FirstLine}
-use Rattle.fields.specs.declared.FirstLine.the-variants.{Bound}
-use Rattle.fields.specs.declared.FirstLine.the-variants.{Refused as WrongLine}
+use Rattle.lines.specs.declared.FirstLine.{FirstLine}
+use Rattle.lines.specs.declared.FirstLine.the-variants.{Bound}
+use Rattle.lines.specs.declared.FirstLine.the-variants.{Refused as WrongLine}
 use Rattle.program.specs.Draft.{blank}
 use Rattle.program.specs.ProgramLine.{lineOf}
 use Rattle.program.specs.Program.{pick, refuse, follow, program, opened, whole, fromLine1, programOf}

@@ -13,7 +13,7 @@ use Rattle.job.specs.declared.Program.{Program}
 use Rattle.scan.specs.Names.{lookup}
 use Rattle.scan.specs.declared.Found.{Found}
 use Rattle.scan.specs.declared.Found.the-variants.{At, Nothing}
-use Rattle.fields.specs.declared.Step.{Step}
+use Rattle.lines.specs.declared.Step.{Step}
 use Rattle.program.specs.declared.Draft.{Draft}
 
 -- name k of a list of names is w, filled up with 0

@@ -8,13 +8,13 @@ use Rattle.job.specs.Limits.{maxSteps}
 use Rattle.scan.specs.Bytes.{starts}
 use Rattle.scan.specs.Lines.{Row}
 use Rattle.fields.specs.Fields.{wholeLine}
-use Rattle.fields.specs.StepLine.{stepLine}
+use Rattle.lines.specs.StepLine.{stepLine}
 use Rattle.fields.specs.declared.Field.{Field}
 use Rattle.fields.specs.declared.Field.the-variants.{Read}
 use Rattle.fields.specs.declared.Field.the-variants.{No as NoField}
-use Rattle.fields.specs.declared.Step.{Step}
-use Rattle.fields.specs.declared.StepLine.{StepLine}
-use Rattle.fields.specs.declared.StepLine.the-variants.{Line, Refused}
+use Rattle.lines.specs.declared.Step.{Step}
+use Rattle.lines.specs.declared.StepLine.{StepLine}
+use Rattle.lines.specs.declared.StepLine.the-variants.{Line, Refused}
 use Rattle.program.specs.Draft.{addStep}
 use Rattle.program.specs.declared.Draft.{Draft}
 use Rattle.program.specs.declared.Next.{Next}

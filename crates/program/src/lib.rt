@@ -10,11 +10,11 @@ ghost use Rattle.program.specs.ProgramLine.{isLemmas, numberOf, programL
 ghost use Rattle.program.specs.Program.{refuse, stop, program as programFrom, wrongOf, programOf};
 use fields::Cursor;
 use fields::Field;
-use fields::FirstLine;
-use fields::Step;
-use fields::StepLine;
 use job::Job;
 use job::Program;
+use lines::FirstLine;
+use lines::Step;
+use lines::StepLine;
 use scan::Found;
 
 // The table while its program is read. Labels L and M stay names, and each step keeps its line, until `lemmas`.
@@ -205,7 +205,7 @@ fn program_line(d: Draft, s: &[u8], n: usize) -> Lined
             draft: d,
         };
     }
-    let l = fields::step_line(&d.labels, k, s, Cursor { line: n, column: 0 });
+    let l = lines::step_line(&d.labels, k, s, Cursor { line: n, column: 0 });
     let StepLine::Line(p) = l else {
         return Lined {
             next: Next::No(number(l)),
@@ -305,7 +305,7 @@ pub fn program(text: &[u8]) -> Outcome
     let Field::Read = f else {
         return refused(fields::number(f), 1);
     };
-    let l = fields::first_line(s, Cursor { line: 1, column: 0 });
+    let l = lines::first_line(s, Cursor { line: 1, column: 0 });
     let FirstLine::Bound(r) = l else {
         return refused(wrong(l), 1);
     };
