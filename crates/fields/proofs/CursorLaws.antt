@@ -11,8 +11,10 @@ use lib.ListN.{length, drop, length-drop}
 use Rattle.lists.specs.Rows.{num}
 use Rattle.lists.specs.Tests.{within}
 use Rattle.lists.proofs.TestLaws.{is-within}
-use Rattle.scan.specs.Bytes.{wordAt, headed, starts}
-use Rattle.scan.proofs.WordLaws.{byte-in, starts-fits}
+use Rattle.lists.specs.Pieces.{starts}
+use Rattle.scan.specs.Bytes.{wordAt, headed}
+use Rattle.lists.proofs.PieceLaws.{starts-length}
+use Rattle.scan.proofs.WordLaws.{byte-in}
 use Rattle.fields.specs.Fields.{pickField, wordField, refuse, went, rangeField, digit}
 use Rattle.fields.specs.declared.Cursor.{Cursor}
 use Rattle.fields.specs.declared.Moved.{Moved}
@@ -46,7 +48,7 @@ word-to stop most lo hi long ill s at m e r =
 
 -- a fixed word of more than no bytes lies in the line
 pub fixed-within : (w s : List ℕ) (column : ℕ) → starts w (drop column s) ≡ true → 0 < length w → column + length w ≤ length s
-fixed-within w s column h k = omega (arith, starts-fits w (drop column s) h, length-drop column s)
+fixed-within w s column h k = omega (arith, starts-length w (drop column s) h, length-drop column s)
 
 pub fixed-fits : (w s : List ℕ) (column : ℕ) → starts w (drop column s) ≡ true → (length w ≡ 0) ⊎ (column + length w ≤ length s)
 fixed-fits w s column h = go (decLt 0 (length w))

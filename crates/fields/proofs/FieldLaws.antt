@@ -10,7 +10,8 @@ use lib.ListN.{length, getD, drop, take, drop-of-length-le, length-take}
 use lib.Seq.{slice, slice-cons}
 use Rattle.lists.specs.Rows.{num}
 use Rattle.lists.specs.Tests.{within}
-use Rattle.scan.specs.Bytes.{wordAt, allOf, alnum, headed, starts}
+use Rattle.lists.specs.Pieces.{starts}
+use Rattle.scan.specs.Bytes.{wordAt, allOf, alnum, headed}
 use Rattle.scan.proofs.WordLaws.{word-part}
 use Rattle.fields.specs.Fields.{wordField, refuse, went, fixedField, endField, bitField, rangeField, digit}
 use Rattle.fields.specs.declared.Cursor.{Cursor}

@@ -6,7 +6,8 @@ use lib.Dec.{leb, ltb}
 use lib.ListN.{length, drop}
 use Rattle.lists.specs.Rows.{num}
 use Rattle.lists.specs.Tests.{within}
-use Rattle.scan.specs.Bytes.{wordAt, headed, starts, plain}
+use Rattle.lists.specs.Pieces.{starts}
+use Rattle.scan.specs.Bytes.{wordAt, headed, plain}
 use Rattle.scan.specs.Lines.{Row}
 use Rattle.fields.specs.declared.Cursor.{Cursor}
 use Rattle.fields.specs.declared.Moved.{Moved}

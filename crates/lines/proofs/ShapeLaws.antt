@@ -10,7 +10,7 @@ use Rattle.lists.specs.Rows.{num}
 use Rattle.lists.specs.Tests.{every, within}
 use Rattle.lists.proofs.TestLaws.{is-within, within-is}
 use Rattle.job.specs.Limits.{maxBound}
-use Rattle.scan.specs.Bytes.{starts}
+use Rattle.lists.specs.Pieces.{starts}
 use Rattle.scan.specs.declared.Found.{Found}
 use Rattle.scan.specs.declared.Found.the-variants.{At, Nothing}
 use Rattle.fields.specs.Fields.{pickField, went, refuse, digit, rangeField}

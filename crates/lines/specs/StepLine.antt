@@ -5,7 +5,8 @@ use mathlib.Core.List.{List, [], _∷_}
 use lib.Dec.{eqb}
 use lib.ListN.{drop}
 use Rattle.lists.specs.Rows.{num}
-use Rattle.scan.specs.Bytes.{starts, wordAt}
+use Rattle.lists.specs.Pieces.{starts}
+use Rattle.scan.specs.Bytes.{wordAt}
 use Rattle.scan.specs.Names.{lookup}
 use Rattle.scan.specs.declared.Found.{Found}
 use Rattle.scan.specs.declared.Found.the-variants.{At, Nothing}

@@ -6,7 +6,7 @@ use Prim.Native.Nat.{ℕ, zero, suc, _+_, _-_, _≤_, _<_}
 use native.Mathlib.Omega.{arith}
 use native.Mathlib.Nat.{zero-add, suc-add}
 use native.Mathlib.Numerals.{add-one}
-use borrow.Author.Tests.{eq-eqb, ne-eqb}
+use borrow.Author.Tests.{eq-eqb, ne-eqb, eqb-true}
 use lib.Dec.{eqb}
 use lib.ListN.{length, getD, take, drop, drop-of-length-le, length-take}
 use lib.Seq.{slice, slice-cons, slice-empty, length-slice, drop-cons, drop-drop, take-take, take-nil, take-length}
@@ -40,6 +40,27 @@ length-upTo k (b ∷ bs) = go (eqb b k) (length-upTo k bs)
     go : (t : Bool) → length (upTo k bs) ≤ length bs → length (cond t [] (b ∷ upTo k bs)) ≤ suc (length bs)
     go true h = omega arith
     go false h = omega arith
+
+pub take-upTo : (k : ℕ) (xs : List ℕ) → take (length (upTo k xs)) xs ≡ upTo k xs
+unfolding upTo
+take-upTo k [] = refl
+take-upTo k (b ∷ bs) = go (eqb b k) (take-upTo k bs)
+  where
+    go : (t : Bool) → take (length (upTo k bs)) bs ≡ upTo k bs → take (length (cond t [] (b ∷ upTo k bs))) (b ∷ bs) ≡ cond t [] (b ∷ upTo k bs)
+    go true h = refl
+    go false h = ap (λ l. b ∷ l) h
+
+-- where they are not all, k follows
+pub drop-upTo : (k : ℕ) (xs : List ℕ) → length (upTo k xs) < length xs → drop (length (upTo k xs)) xs ≡ k ∷ drop (suc (length (upTo k xs))) xs
+unfolding upTo
+drop-upTo k [] h = absurd (omega arith)
+drop-upTo k (b ∷ bs) h = go (eqb b k) refl h (drop-upTo k bs)
+  where
+    go : (t : Bool) → eqb b k ≡ t → length (cond t [] (b ∷ upTo k bs)) < suc (length bs)
+        → (length (upTo k bs) < length bs → drop (length (upTo k bs)) bs ≡ k ∷ drop (suc (length (upTo k bs))) bs)
+        → drop (length (cond t [] (b ∷ upTo k bs))) (b ∷ bs) ≡ k ∷ drop (length (cond t [] (b ∷ upTo k bs))) bs
+    go true e h f = ap (λ x. x ∷ bs) (eqb-true b k e)
+    go false e h f = f (omega arith)
 
 module _ (k : ℕ) (s : List ℕ) (i to : ℕ) where
   pub up-hit : i < to → to ≤ length s → getD s i 0 ≡ k → length (upTo k (slice i to s)) ≡ 0
@@ -94,7 +115,7 @@ is-other-length t p h = rw (ne-eqb (length p) (length t) h)
 
 -- ---- pieces
 
-cut-all : (k : ℕ) (xs : List ℕ) → length (upTo k xs) ≡ length xs → cut k xs ≡ last xs
+pub cut-all : (k : ℕ) (xs : List ℕ) → length (upTo k xs) ≡ length xs → cut k xs ≡ last xs
 unfolding upTo cut
 cut-all k [] h = refl
 cut-all k (b ∷ bs) h = go (eqb b k) h (cut-all k bs)
@@ -104,7 +125,7 @@ cut-all k (b ∷ bs) h = go (eqb b k) h (cut-all k bs)
     go true h f = absurd (omega arith)
     go false h f = ap (onto b) (f (omega arith))
 
-cut-first : (k : ℕ) (xs : List ℕ) → length (upTo k xs) < length xs
+pub cut-first : (k : ℕ) (xs : List ℕ) → length (upTo k xs) < length xs
     → cut k xs ≡ piece (take (length (upTo k xs)) xs) (cut k (drop (suc (length (upTo k xs))) xs))
 unfolding upTo cut
 cut-first k [] h = absurd (omega arith)

@@ -11,8 +11,9 @@ use Rattle.lists.specs.Rows.{each}
 use Rattle.lists.specs.Tests.{every, all, within}
 use Rattle.lists.specs.Places.{passing, first}
 use Rattle.job.specs.Fitness.{firstOf, bothCritical}
-use Rattle.scan.specs.Bytes.{upTo, allOf, starts, alnum, headed}
-use Rattle.scan.specs.Lines.{push, lines}
+use Rattle.lists.specs.Pieces.{cut, upTo, starts}
+use Rattle.scan.specs.Bytes.{allOf, alnum, headed}
+use Rattle.scan.specs.Lines.{rows, lines}
 use Rattle.scan.specs.Names.{entryIs, lookup}
 use Rattle.fields.specs.Fields.{wordField, fixedField, bitField, rangeField, endField, wholeLine}
 use Rattle.lines.specs.FirstLine.{firstLine, numberAt, valueOf}
@@ -26,7 +27,7 @@ use Rattle.program.specs.Program.{follow, program, opened, fromLine1, programOf
 use Rattle.program.specs.Program.{whole as wholeLine1}
 use Rattle.parse.specs.Answers.{withoutLemmas, by, refusal}
 use Rattle.parse.specs.Labels.{targetOf, aim, enterTo, enterOther, on, linkStep, link, started, atLemmas}
-use Rattle.parse.specs.Lemmas.{onto, words, bare, itemIn, named, lemma, whole, lemmaLine, lemmaLines}
+use Rattle.parse.specs.Lemmas.{filled, words, bare, itemIn, named, lemma, whole, lemmaLine, lemmaLines}
 use Rattle.parse.specs.Reading.{fromLemmas, reading}
 use Rattle.parse.specs.declared.Verdict.{Verdict}
 use Rattle.parse.specs.declared.Verdict.the-variants.{Accepted, Refused}
@@ -53,19 +54,19 @@ table : let j = reading (bytes oneBit) .job in
     × (take 3 (j .program .value) ≡ 1 ∷ 0 ∷ 0 ∷ [])
     × (take 9 (j .labels) ≡ 65 ∷ 48 ∷ 0 ∷ 0 ∷ 66 ∷ 48 ∷ 0 ∷ 0 ∷ 0 ∷ [])
     × (take 5 (j .names) ≡ 97 ∷ 0 ∷ 0 ∷ 0 ∷ 0 ∷ [])
-unfolding bytes verdict every all within each passing first firstOf bothCritical upTo allOf starts alnum headed push lines entryIs lookup wordField fixedField
+unfolding bytes verdict every all within each passing first firstOf bothCritical cut upTo allOf starts alnum headed rows lines entryIs lookup wordField fixedField
     bitField rangeField endField wholeLine firstLine numberAt valueOf thenFirst fresh bitOf elseLine endLine gotoLine testLine kindLine stepLine thenStep
     blank mentionAt processOf otherEnd enter addStep isLemmas isComment stepped programLine pickLined wholeProgramLine follow program opened fromLine1
-    programOf wholeLine1 withoutLemmas by targetOf aim enterTo enterOther on linkStep link started atLemmas onto words bare itemIn named lemma whole
+    programOf wholeLine1 withoutLemmas by targetOf aim enterTo enterOther on linkStep link started atLemmas filled words bare itemIn named lemma whole
     lemmaLine lemmaLines fromLemmas reading
 table = (refl, refl, refl, refl, refl, refl, refl, refl, refl, refl, refl)
 
 -- in a lemma `~` is negation
 items : take 4 (reading (bytes "bound 1\n~ one bit\nA0 a=1 goto A0\nB0 maybe goto B0\nlemmas\n~a  A0 B0\n") .job .items) ≡ negsuc 2 ∷ pos 1 ∷ pos 2 ∷ pos 0 ∷ []
-unfolding bytes verdict every all within each passing first firstOf bothCritical upTo allOf starts alnum headed push lines entryIs lookup wordField fixedField
+unfolding bytes verdict every all within each passing first firstOf bothCritical cut upTo allOf starts alnum headed rows lines entryIs lookup wordField fixedField
     bitField rangeField endField wholeLine firstLine numberAt valueOf thenFirst fresh bitOf elseLine endLine gotoLine testLine kindLine stepLine thenStep
     blank mentionAt processOf otherEnd enter addStep isLemmas isComment stepped programLine pickLined wholeProgramLine follow program opened fromLine1
-    programOf wholeLine1 withoutLemmas by targetOf aim enterTo enterOther on linkStep link started atLemmas onto words bare itemIn named lemma whole
+    programOf wholeLine1 withoutLemmas by targetOf aim enterTo enterOther on linkStep link started atLemmas filled words bare itemIn named lemma whole
     lemmaLine lemmaLines fromLemmas reading
 items = refl
 
@@ -111,9 +112,9 @@ refusals =
     ∷ []
 
 as-told : map (λ (c : String × Verdict). verdict (c .0)) refusals ≡ map (λ (c : String × Verdict). c .1) refusals
-unfolding bytes verdict every all within each passing first firstOf bothCritical upTo allOf starts alnum headed push lines entryIs lookup wordField fixedField
+unfolding bytes verdict every all within each passing first firstOf bothCritical cut upTo allOf starts alnum headed rows lines entryIs lookup wordField fixedField
     bitField rangeField endField wholeLine firstLine numberAt valueOf thenFirst fresh bitOf elseLine endLine gotoLine testLine kindLine stepLine thenStep
     blank mentionAt processOf otherEnd enter addStep isLemmas isComment stepped programLine pickLined wholeProgramLine follow program opened fromLine1
-    programOf wholeLine1 withoutLemmas by targetOf aim enterTo enterOther on linkStep link started atLemmas onto words bare itemIn named lemma whole
+    programOf wholeLine1 withoutLemmas by targetOf aim enterTo enterOther on linkStep link started atLemmas filled words bare itemIn named lemma whole
     lemmaLine lemmaLines fromLemmas reading
 as-told = refl

@@ -4,22 +4,25 @@ use mathlib.Core.Bool.{Bool, true, false, cond, and-true}
 use mathlib.Core.List.{List, [], _∷_}
 use Prim.Native.Nat.{ℕ, zero, suc, _+_, _-_, _≤_, _<_}
 use native.Mathlib.Omega.{arith}
+use native.Mathlib.Decide.{decLt}
 use native.Mathlib.Numerals.{add-one}
-use borrow.Author.Tests.{eq-eqb, ne-eqb, le-leb, lt-leb, eqb-false}
+use borrow.Author.Tests.{eq-eqb, ne-eqb, le-leb, lt-leb}
 use lib.Dec.{eqb, ltb, leb, lit<}
 use lib.IntN.{ℤ, pos, negℤ, _-ℤ_, +ℤ-idl}
 use lib.ListN.{length, getD, drop, take, drop-of-length-le}
-use lib.Seq.{drop-cons, drop-drop, slice, slice-cons, length-slice}
+use lib.Seq.{drop-cons, drop-drop, slice, slice-cons, length-slice, take-all}
 use mir.Syntax.{w16}
 use mir.Val.{SFits, toZ, ofZ}
 use mir.ValLaws.{toZ-pos, toZ-ofZ}
 use Rattle.lists.specs.Rows.{num}
 use Rattle.lists.specs.Tests.{within}
+use Rattle.lists.specs.Pieces.{cut, upTo, starts}
+use Rattle.lists.proofs.PieceLaws.{length-upTo, take-upTo, drop-upTo, cut-all, cut-first}
 use Rattle.lists.proofs.TestLaws.{within-under, within-over, within-is}
 use Rattle.job.specs.Limits.{maxLemmas, maxNames}
 use Rattle.job.specs.declared.Program.{Program}
 use Rattle.job.specs.declared.Job.{Job}
-use Rattle.scan.specs.Bytes.{upTo, wordAt, starts}
+use Rattle.scan.specs.Bytes.{wordAt}
 use Rattle.scan.specs.Lines.{Row, row, lines}
 use Rattle.scan.specs.Names.{lookup}
 use Rattle.scan.specs.declared.Found.{Found}
@@ -30,7 +33,7 @@ use Rattle.fields.specs.Fields.{numberOf, wholeLine}
 use Rattle.fields.specs.declared.Field.{Field}
 use Rattle.fields.specs.declared.Field.the-variants.{Read, No}
 use Rattle.parse.specs.Answers.{refuse, accept, then, by, pick}
-use Rattle.parse.specs.Lemmas.{words, onto, bare, negated, itemAt, itemIn, itemOf, signed, withItem, closed, named, lemma, whole, lemmaLine, lemmaLines}
+use Rattle.parse.specs.Lemmas.{word, filled, words, bare, negated, itemAt, itemIn, itemOf, signed, withItem, closed, named, lemma, whole, lemmaLine, lemmaLines}
 use Rattle.parse.specs.declared.Reading.{Reading}
 use Rattle.parse.proofs.AnswerLaws.{Holds, pick-holds, then-holds}
 
@@ -51,41 +54,48 @@ minus-back x h = toZ-ofZ w16 _ (minus-fits x h) ∙ minus x h
 
 -- ---- words
 
+spaced : (bs : List ℕ) → words (32 ∷ bs) ≡ words bs
+unfolding words filled cut
+spaced bs = refl
+
 module _ (s : List ℕ) (at : ℕ) (l : at < length s) where
   pub words-space : getD s at 0 ≡ 32 → words (drop at s) ≡ words (drop (suc at) s)
-  unfolding words
-  words-space h = rw (drop-cons s at 0 l, eq-eqb (getD s at 0) 32 h)
+  words-space h = rw (drop-cons s at 0 l, h) (spaced (drop (suc at) s))
 
-word-first : (b : ℕ) (bs : List ℕ) → (b ≡ 32 → ⊥) → words (b ∷ bs) ≡ upTo 32 (b ∷ bs) ∷ words (drop (length (upTo 32 (b ∷ bs))) (b ∷ bs))
-unfolding words upTo onto
-word-first b [] h = rw (ne-eqb b 32 h)
-word-first b (c ∷ cs) h = rw (ne-eqb b 32 h) (go (eqb c 32) refl (word-first c cs))
+word-on : (p : List ℕ) (ws : List (List ℕ)) → 0 < length p → word p ws ≡ p ∷ ws
+word-on [] ws h = absurd (omega arith)
+word-on (b ∷ bs) ws h = refl
+
+up-some : (b : ℕ) (bs : List ℕ) → (b ≡ 32 → ⊥) → 0 < length (upTo 32 (b ∷ bs))
+unfolding upTo
+up-some b bs h = rw (ne-eqb b 32 h) (omega arith)
+
+-- a word ends at a space, or with the line
+word-first : (xs : List ℕ) → 0 < length (upTo 32 xs) → words xs ≡ upTo 32 xs ∷ words (drop (length (upTo 32 xs)) xs)
+unfolding words filled cut
+word-first xs some = go (decLt (length (upTo 32 xs)) (length xs))
   where
-    short : (c : ℕ) (cs : List ℕ) (ws : List (List ℕ)) → eqb c 32 ≡ true → onto b (c ∷ cs) ws ≡ (b ∷ []) ∷ ws
-    short c cs [] e = refl
-    short c cs (w ∷ ws) e = rw e
-
-    go : (t : Bool) → eqb c 32 ≡ t → ((c ≡ 32 → ⊥) → words (c ∷ cs) ≡ upTo 32 (c ∷ cs) ∷ words (drop (length (upTo 32 (c ∷ cs))) (c ∷ cs)))
-        → onto b (c ∷ cs) (words (c ∷ cs)) ≡ (b ∷ upTo 32 (c ∷ cs)) ∷ words (drop (length (upTo 32 (c ∷ cs))) (c ∷ cs))
-    go true e g =
-        let gone : words (c ∷ cs) ≡ words cs = ap (λ (t : Bool). cond t (words cs) (onto c cs (words cs))) e in
-        ap (onto b (c ∷ cs)) gone ∙ short c cs (words cs) e
-        ∙ sym
-        (ap (λ (t : Bool). (b ∷ cond t [] (c ∷ upTo 32 cs)) ∷ words (drop (length (cond t [] (c ∷ upTo 32 cs))) (c ∷ cs))) e
-        ∙ ap (λ (l : List (List ℕ)). (b ∷ []) ∷ l) gone)
-    go false e g =
-        let rest = words (drop (length (upTo 32 (c ∷ cs))) (c ∷ cs)) in
-        ap (onto b (c ∷ cs)) (g (eqb-false c 32 e))
-        ∙ ap (λ (t : Bool). cond t ((b ∷ []) ∷ (upTo 32 (c ∷ cs) ∷ rest)) ((b ∷ upTo 32 (c ∷ cs)) ∷ rest)) e
+    go : Dec (length (upTo 32 xs) < length xs) → filled (cut 32 xs) ≡ upTo 32 xs ∷ filled (cut 32 (drop (length (upTo 32 xs)) xs))
+    go (yes l) =
+        let rest = drop (suc (length (upTo 32 xs))) xs in
+        ap filled (cut-first 32 xs l)
+        ∙ ap (λ p. word p (filled (cut 32 rest))) (take-upTo 32 xs)
+        ∙ word-on (upTo 32 xs) (filled (cut 32 rest)) some
+        ∙ ap (λ l. upTo 32 xs ∷ filled (cut 32 l)) (sym (drop-upTo 32 xs l))
+    go (no l) =
+        let all : length (upTo 32 xs) ≡ length xs = omega (arith, length-upTo 32 xs) in
+        let same : upTo 32 xs ≡ xs = sym (take-upTo 32 xs) ∙ take-all (length (upTo 32 xs)) xs (omega arith) in
+        let none = drop-of-length-le xs {i = length (upTo 32 xs)} (omega arith) in
+        ap filled (cut-all 32 xs all) ∙ word-on xs [] (omega arith) ∙ rw (none, same)
 
 pub words-word : (s : List ℕ) (at e : ℕ) → at < length s → (getD s at 0 ≡ 32 → ⊥) → e ≡ at + length (wordAt 32 s at) → words (drop at s) ≡ wordAt 32 s at ∷ words (drop e s)
 words-word s at e l h k =
     let d : drop at s ≡ getD s at 0 ∷ drop (suc at) s = drop-cons s at 0 l in
-    subst (λ (t : List ℕ). words t ≡ upTo 32 t ∷ words (drop (length (upTo 32 t)) t)) (sym d) (word-first (getD s at 0) (drop (suc at) s) h)
+    word-first (drop at s) (rw d (up-some (getD s at 0) (drop (suc at) s) h))
     ∙ ap (λ (t : List ℕ). wordAt 32 s at ∷ words t) (drop-drop (length (wordAt 32 s at)) at s ∙ ap (λ (n : ℕ). drop n s) (sym k))
 
 pub words-end : (s : List ℕ) (at : ℕ) → length s ≤ at → words (drop at s) ≡ []
-unfolding words
+unfolding words filled cut
 words-end s at h = ap words (drop-of-length-le s {i = at} h)
 
 -- ---- a word of a lemma

@@ -7,10 +7,10 @@ use lib.IntN.{ℤ, pos, negℤ}
 use lib.ListN.{length, set}
 use Rattle.lists.specs.Rows.{num}
 use Rattle.lists.specs.Tests.{within}
+use Rattle.lists.specs.Pieces.{Pieces, last, piece, cut, starts}
 use Rattle.job.specs.Limits.{maxLemmas, maxNames}
 use Rattle.job.specs.declared.Job.{Job}
 use Rattle.job.specs.declared.Program.{Program}
-use Rattle.scan.specs.Bytes.{starts}
 use Rattle.scan.specs.Lines.{Row}
 use Rattle.scan.specs.Names.{lookup}
 use Rattle.scan.specs.declared.Found.{Found}
@@ -24,16 +24,18 @@ use Rattle.parse.specs.declared.Reading.{Reading}
 
 -- ---- words
 
--- a byte that is no space, in front of the rest of its line and that rest's words
-unfoldable pub onto : ℕ → List ℕ → List (List ℕ) → List (List ℕ)
-onto b [] ws = (b ∷ []) ∷ ws
-onto b (c ∷ cs) [] = (b ∷ []) ∷ []
-onto b (c ∷ cs) (w ∷ ws) = cond (eqb c 32) ((b ∷ []) ∷ (w ∷ ws)) ((b ∷ w) ∷ ws)
+abbrev pub word : List ℕ → List (List ℕ) → List (List ℕ)
+word [] ws = ws
+word (b ∷ bs) ws = (b ∷ bs) ∷ ws
+
+-- the pieces that are not empty
+unfoldable pub filled : Pieces → List (List ℕ)
+filled (last p) = word p []
+filled (piece p ps) = word p (filled ps)
 
 -- the words of a line, 'between any number of spaces'
 unfoldable pub words : List ℕ → List (List ℕ)
-words [] = []
-words (b ∷ bs) = cond (eqb b 32) (words bs) (onto b bs (words bs))
+words line = filled (cut 32 line)
 
 -- ---- names
 

@@ -5,7 +5,7 @@ use mathlib.Core.List.{List, [], _∷_}
 use lib.Dec.{eqb, leb}
 use lib.ListN.{length}
 use Rattle.job.specs.Limits.{maxSteps}
-use Rattle.scan.specs.Bytes.{starts}
+use Rattle.lists.specs.Pieces.{starts}
 use Rattle.scan.specs.Lines.{Row}
 use Rattle.fields.specs.Fields.{wholeLine}
 use Rattle.lines.specs.StepLine.{stepLine}

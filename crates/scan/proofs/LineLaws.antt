@@ -1,65 +1,53 @@
 -- Laws of lines: the first line of what is left of a text, and the end of the text.
 use mathlib.Core.Path.{_≡_, refl, sym, ap, _∙_}
-use mathlib.Core.Bool.{Bool, true, false, cond}
+use mathlib.Core.Bool.{Bool, true, false}
 use mathlib.Core.List.{List, [], _∷_}
-use Prim.Native.Nat.{ℕ, zero, suc, _+_, _-_, _≤_, _<_}
+use Prim.Native.Nat.{ℕ, suc, _+_, _-_, _≤_, _<_}
 use native.Mathlib.Omega.{arith}
-use native.Mathlib.Decide.{decLt}
+use native.Mathlib.Decide.{ℕ-discrete}
 use borrow.Author.Tests.{lt-ltb, le-ltb}
-use lib.Dec.{eqb, ltb, leb·suc-suc}
-use lib.ListN.{length, drop, take, length-drop, drop-of-length-le}
-use lib.Seq.{drop-drop}
-use Rattle.scan.specs.Bytes.{upTo, wordAt}
-use Rattle.scan.specs.Lines.{Row, row, push, lines}
-use Rattle.scan.proofs.WordLaws.{take-upTo}
+use lib.Dec.{ltb}
+use lib.ListN.{length, drop, take, drop-of-length-le, length-drop}
+use lib.Seq.{slice, length-slice, take-length}
+use Rattle.lists.specs.Pieces.{last, cut, upTo}
+use Rattle.lists.proofs.PieceLaws.{length-upTo, take-upTo, rest-last, rest-piece}
+use Rattle.scan.specs.Bytes.{wordAt}
+use Rattle.scan.specs.Lines.{Row, row, rows, lines}
+use Rattle.scan.proofs.WordLaws.{word-part}
 
--- the first line of a text that has one, and the rest
-lines-first : (b : ℕ) (bs : List ℕ)
-    → lines (b ∷ bs)
-    ≡ row (upTo 10 (b ∷ bs)) (ltb (length (upTo 10 (b ∷ bs))) (suc (length bs))) ∷ lines (drop (suc (length (upTo 10 (b ∷ bs)))) (b ∷ bs))
-unfolding lines upTo push
-lines-first b [] = go (eqb b 10)
-  where
-    go : (t : Bool) → cond t (row [] true ∷ []) (row (b ∷ []) false ∷ [])
-        ≡ row (cond t [] (b ∷ [])) (ltb (length (cond t [] (b ∷ []))) 1) ∷ lines (drop (length (cond t [] (b ∷ []))) [])
-    go true = refl
-    go false = refl
-lines-first b (d ∷ ds) = go (eqb b 10) (lines-first d ds)
-  where
-    go : (t : Bool) → lines (d ∷ ds) ≡ row (upTo 10 (d ∷ ds)) (ltb (length (upTo 10 (d ∷ ds))) (suc (length ds))) ∷ lines (drop (suc (length (upTo 10 (d ∷ ds)))) (d ∷ ds))
-        → cond t (row [] true ∷ lines (d ∷ ds)) (push b (lines (d ∷ ds)))
-        ≡ row (cond t [] (b ∷ upTo 10 (d ∷ ds))) (ltb (length (cond t [] (b ∷ upTo 10 (d ∷ ds)))) (suc (suc (length ds))))
-        ∷ lines (drop (length (cond t [] (b ∷ upTo 10 (d ∷ ds)))) (d ∷ ds))
-    go true h = ap (λ (e : Bool). row [] e ∷ lines (d ∷ ds)) (sym (lt-ltb 0 (suc (suc (length ds))) (omega arith)))
-    go false h =
-        ap (push b) h
-        ∙ ap (λ (e : Bool). row (b ∷ upTo 10 (d ∷ ds)) e ∷ lines (drop (suc (length (upTo 10 (d ∷ ds)))) (d ∷ ds)))
-        (sym (leb·suc-suc (suc (length (upTo 10 (d ∷ ds)))) (suc (length ds))))
+-- a last piece that is not empty is a line without LF
+open-row : (p : List ℕ) → 0 < length p → rows (last p) ≡ row p false ∷ []
+unfolding rows
+open-row [] h = absurd (omega arith)
+open-row (b ∷ bs) h = refl
 
--- the same at a place of the text, whose line ends at e
-ltb-shift : (a n m : ℕ) → a < m → ltb n (m - a) ≡ ltb (a + n) m
-ltb-shift a n m h = go (decLt n (m - a))
-  where
-    go : Dec (n < m - a) → ltb n (m - a) ≡ ltb (a + n) m
-    go (yes k) = lt-ltb n (m - a) k ∙ sym (lt-ltb (a + n) m (omega arith))
-    go (no k) = le-ltb n (m - a) (omega arith) ∙ sym (le-ltb (a + n) m (omega arith))
+module _ (text : List ℕ) (at e : ℕ) (h : at < length text) (end : e ≡ at + length (wordAt 10 text at)) where
+  here : e ≡ at + length (upTo 10 (slice at (length text) text))
+  here = rw (take-length text) end
 
-split-first : (l : List ℕ) → 0 < length l → lines l ≡ row (upTo 10 l) (ltb (length (upTo 10 l)) (length l)) ∷ lines (drop (suc (length (upTo 10 l))) l)
-split-first [] h = absurd (omega arith)
-split-first (b ∷ bs) h = lines-first b bs
+  within : e ≤ length text
+  within = omega (arith, length-upTo 10 (drop at text), length-drop at text)
 
-pub lines-at : (text : List ℕ) (at e : ℕ) → at < length text → e ≡ at + length (wordAt 10 text at)
-    → lines (drop at text) ≡ row (take (e - at) (drop at text)) (ltb e (length text)) ∷ lines (drop (e + 1) text)
-lines-at text at e h k =
-    let w = length (wordAt 10 text at) in
-    let p : e - at ≡ w = omega arith in
-    let q : at + suc w ≡ e + 1 = omega arith in
-    let ended = ap (ltb w) (length-drop at text) ∙ ltb-shift at w (length text) h ∙ ap (λ (x : ℕ). ltb x (length text)) (sym k) in
-    split-first (drop at text) (omega (arith, length-drop at text))
-    ∙ ap (λ (b : Bool). row (wordAt 10 text at) b ∷ lines (drop (suc w) (drop at text))) ended
-    ∙ ap (λ (l : List ℕ). row (wordAt 10 text at) (ltb e (length text)) ∷ lines l) (drop-drop (suc w) at text ∙ ap (λ (x : ℕ). drop x text) q)
-    ∙ ap (λ (l : List ℕ). row l (ltb e (length text)) ∷ lines (drop (e + 1) text)) (sym (take-upTo 10 (drop at text)) ∙ ap (λ (x : ℕ). take x (drop at text)) (sym p))
+  -- the line's bytes, as the code takes them
+  bytes : slice at e text ≡ take (e - at) (drop at text)
+  bytes =
+      let n : length (wordAt 10 text at) ≡ e - at = omega arith in
+      word-part 10 text at e end ∙ sym (take-upTo 10 (drop at text)) ∙ ap (λ (k : ℕ). take k (drop at text)) n
+
+  pub lines-at : lines (drop at text) ≡ row (take (e - at) (drop at text)) (ltb e (length text)) ∷ lines (drop (e + 1) text)
+  unfolding lines rows cut
+  lines-at = go (ℕ-discrete e (length text))
+    where
+      go : Dec (e ≡ length text) → rows (cut 10 (drop at text)) ≡ row (take (e - at) (drop at text)) (ltb e (length text)) ∷ rows (cut 10 (drop (e + 1) text))
+      go (yes z) =
+          let none = drop-of-length-le text {i = e + 1} (omega arith) in
+          ap rows (rest-last 10 text at e (omega arith) here z)
+          ∙ open-row (slice at e text) (omega (arith, length-slice at e text within))
+          ∙ rw (bytes, le-ltb e (length text) (omega arith), none)
+      go (no z) =
+          ap rows (rest-piece 10 text at e (omega arith) here z)
+          ∙ rw (bytes, lt-ltb e (length text) (omega (arith, within, z)))
 
 pub lines-out : (text : List ℕ) (at : ℕ) → length text ≤ at → lines (drop at text) ≡ []
-unfolding lines
+unfolding lines rows cut
 lines-out text at h = ap lines (drop-of-length-le text {i = at} h)

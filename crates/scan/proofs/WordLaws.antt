@@ -11,7 +11,9 @@ use lib.Dec.{eqb}
 use lib.ListN.{length, getD, drop, take, drop-of-length-le, length-drop, length-take, List·getD-eq-default}
 use lib.Seq.{getD-drop, getD-take, take-nil, drop-cons, slice}
 use Rattle.lists.specs.Rows.{num}
-use Rattle.scan.specs.Bytes.{upTo, wordAt, allOf, starts}
+use Rattle.lists.specs.Pieces.{upTo, starts}
+use Rattle.lists.proofs.PieceLaws.{length-upTo, take-upTo}
+use Rattle.scan.specs.Bytes.{wordAt, allOf}
 
 -- ---- a byte
 
@@ -40,25 +42,6 @@ module _ (stop : ℕ) (s : List ℕ) (e : ℕ) where
   pub end-more : e < length s → (getD s e 0 ≡ stop → ⊥) → length (wordAt stop s e) ≡ suc (length (wordAt stop s (suc e)))
   unfolding upTo
   end-more h k = rw (drop-cons s e 0 h, ne-eqb (getD s e 0) stop k)
-
-pub length-upTo : (stop : ℕ) (s : List ℕ) → length (upTo stop s) ≤ length s
-unfolding upTo
-length-upTo stop [] = omega arith
-length-upTo stop (b ∷ bs) = go (eqb b stop) (length-upTo stop bs)
-  where
-    go : (t : Bool) → length (upTo stop bs) ≤ length bs → length (cond t [] (b ∷ upTo stop bs)) ≤ suc (length bs)
-    go true h = omega arith
-    go false h = omega arith
-
-pub take-upTo : (stop : ℕ) (s : List ℕ) → take (length (upTo stop s)) s ≡ upTo stop s
-unfolding upTo
-take-upTo stop [] = refl
-take-upTo stop (b ∷ bs) = go (eqb b stop) (take-upTo stop bs)
-  where
-    go : (t : Bool) → take (length (upTo stop bs)) bs ≡ upTo stop bs
-        → take (length (cond t [] (b ∷ upTo stop bs))) (b ∷ bs) ≡ cond t [] (b ∷ upTo stop bs)
-    go true h = refl
-    go false h = ap (λ l. b ∷ l) h
 
 drop-take : (f n : ℕ) (s : List ℕ) → drop f (take (f + n) s) ≡ take n (drop f s)
 drop-take zero n s = ap (λ (k : ℕ). take k s) (zero-add n)
@@ -116,13 +99,3 @@ module _ (w s : List ℕ) (i p : ℕ) where
   pub starts-done : length w ≤ i → starts (drop i w) (drop p s) ≡ true
   unfolding starts
   starts-done h = rw (drop-of-length-le w {i = i} h)
-
-pub starts-fits : (w l : List ℕ) → starts w l ≡ true → length w ≤ length l
-unfolding starts
-starts-fits [] l h = omega arith
-starts-fits (x ∷ xs) [] h = absurd (false≢true h)
-starts-fits (x ∷ xs) (b ∷ bs) h = go (eqb b x) (starts-fits xs bs) h
-  where
-    go : (t : Bool) → (starts xs bs ≡ true → length xs ≤ length bs) → (t && starts xs bs) ≡ true → suc (length xs) ≤ suc (length bs)
-    go true g h = omega (arith, g h)
-    go false g h = absurd (false≢true h)

@@ -1,15 +1,10 @@
 -- Words and the bytes they are made of (document 01, 'The job text').
 use Prim.Native.Nat.{ℕ}
-use mathlib.Core.Bool.{Bool, true, false, _&&_, _||_, cond}
+use mathlib.Core.Bool.{Bool, true, false, _&&_, _||_}
 use mathlib.Core.List.{List, [], _∷_}
-use lib.Dec.{eqb}
 use lib.ListN.{drop}
 use Rattle.lists.specs.Tests.{within}
-
--- the bytes up to the first stop, or all
-unfoldable pub upTo : ℕ → List ℕ → List ℕ
-upTo stop [] = []
-upTo stop (b ∷ bs) = cond (eqb b stop) [] (b ∷ upTo stop bs)
+use Rattle.lists.specs.Pieces.{upTo}
 
 -- the word that starts at a column and ends at the first stop or the line's end
 abbrev pub wordAt : ℕ → List ℕ → ℕ → List ℕ
@@ -18,12 +13,6 @@ wordAt stop s column = upTo stop (drop column s)
 unfoldable pub allOf : (ℕ → Bool) → List ℕ → Bool
 allOf f [] = true
 allOf f (b ∷ bs) = f b && allOf f bs
-
--- the line goes on with this word
-unfoldable pub starts : List ℕ → List ℕ → Bool
-starts [] s = true
-starts (w ∷ ws) [] = false
-starts (w ∷ ws) (b ∷ bs) = eqb b w && starts ws bs
 
 -- 'letters or digits'
 unfoldable pub alnum : ℕ → Bool

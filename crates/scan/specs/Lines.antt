@@ -1,8 +1,8 @@
 -- 'Lines end in LF' (document 01, 'The job text').
 use Prim.Native.Nat.{ℕ}
-use mathlib.Core.Bool.{Bool, true, false, cond}
+use mathlib.Core.Bool.{Bool, true, false}
 use mathlib.Core.List.{List, [], _∷_}
-use lib.Dec.{eqb}
+use Rattle.lists.specs.Pieces.{Pieces, last, piece, cut}
 
 -- a line's bytes, and whether its LF is there
 pub record Row : Type 0 where
@@ -12,11 +12,11 @@ pub record Row : Type 0 where
 abbrev pub row : List ℕ → Bool → Row
 row bytes ended = record { bytes = bytes; ended = ended }
 
--- one more byte in front of the first line
-unfoldable pub push : ℕ → List Row → List Row
-push b [] = row (b ∷ []) false ∷ []
-push b (l ∷ ls) = row (b ∷ l .bytes) (l .ended) ∷ ls
+-- behind the last LF there is a line only where there are bytes
+unfoldable pub rows : Pieces → List Row
+rows (last []) = []
+rows (last (b ∷ bs)) = row (b ∷ bs) false ∷ []
+rows (piece p ps) = row p true ∷ rows ps
 
 unfoldable pub lines : List ℕ → List Row
-lines [] = []
-lines (b ∷ bs) = cond (eqb b 10) (row [] true ∷ lines bs) (push b (lines bs))
+lines text = rows (cut 10 text)

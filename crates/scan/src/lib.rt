@@ -4,7 +4,8 @@ ghost use Prim.Native.Nat.{ℕ, _+_, _*_, _<_};
 ghost use lib.ListN.{length, drop};
 ghost use lib.Seq.{slice};
 ghost use Rattle.lists.specs.Rows.{num};
-ghost use Rattle.scan.specs.Bytes.{wordAt, starts, plain as plainBytes};
+ghost use Rattle.lists.specs.Pieces.{starts};
+ghost use Rattle.scan.specs.Bytes.{wordAt, plain as plainBytes};
 ghost use Rattle.scan.specs.Names.{lookup};
 
 // Where a name stands among others, counted from 0.

@@ -11,10 +11,11 @@ use lib.ListN.{length, take, drop, length-append, length-drop}
 use lib.Seq.{drop-nil}
 use Rattle.lists.specs.Writing.{write}
 use Rattle.lists.proofs.Logic.{split}
+use Rattle.lists.proofs.PieceLaws.{length-upTo}
 use Rattle.lists.proofs.WritingLaws.{length-write, write-none, write-more}
-use Rattle.scan.specs.Bytes.{starts, wordAt}
+use Rattle.lists.specs.Pieces.{starts}
+use Rattle.scan.specs.Bytes.{wordAt}
 use Rattle.scan.specs.Lines.{lines}
-use Rattle.scan.proofs.WordLaws.{length-upTo}
 use Rattle.scan.proofs.LineLaws.{lines-at, lines-out}
 use Rattle.program.specs.ProgramLine.{isLemmas, isComment}
 use Rattle.text.specs.Numerals.{lf}

@@ -8,7 +8,7 @@ use Rattle.lists.specs.Rows.{each}
 use Rattle.lists.specs.Places.{passing, first}
 use Rattle.lists.specs.Tests.{every}
 use Rattle.job.specs.OneBit.{oneBit}
-use Rattle.scan.specs.Bytes.{starts}
+use Rattle.lists.specs.Pieces.{starts}
 use Rattle.scan.specs.Lines.{lines, push}
 use Rattle.program.specs.ProgramLine.{isLemmas, isComment}
 use Rattle.text.specs.Comments.{remarks, comments}

@@ -6,7 +6,7 @@ use native.Mathlib.Omega.{arith}
 use native.Mathlib.Numerals.{add-one}
 use borrow.Author.Tests.{eq-eqb, ne-eqb}
 use lib.ListN.{length, drop}
-use Rattle.scan.specs.Bytes.{starts}
+use Rattle.lists.specs.Pieces.{starts}
 use Rattle.scan.proofs.WordLaws.{starts-step, starts-out, starts-done}
 use borrow.Author.Needs.{needs}
 use Rattle.scan.proofs.follows.Statement.{statement}
