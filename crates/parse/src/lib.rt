@@ -2,13 +2,14 @@
 ghost use mathlib.Core.Path.{_≡_};
 ghost use Prim.Native.Nat.{ℕ, _+_, _*_, _<_, _≤_};
 ghost use mathlib.Core.Bool.{cond, _&&_};
+ghost use mathlib.Core.List.{[]};
 ghost use lib.Dec.{eqb};
 ghost use lib.IntN.{ℤ};
 ghost use lib.ListN.{length, drop};
 ghost use lib.Seq.{slice};
 ghost use Rattle.lists.specs.Rows.{num};
 ghost use Rattle.lists.specs.Places.{first};
-ghost use Rattle.job.specs.Limits.{maxSteps, maxLemmas, maxText};
+ghost use Rattle.job.specs.Limits.{maxSteps, maxLemmas, maxNames, maxText};
 ghost use Rattle.scan.specs.Lines.{row, lines};
 ghost use Rattle.scan.specs.Names.{lookup};
 ghost use Rattle.parse.specs.Answers.{refusal as refusalOf, deny, withoutLemmas};
@@ -316,6 +317,24 @@ fn signed(neg: bool, i: usize) -> i16
     if neg { -(i as i16) } else { i as i16 }
 }
 
+// The line's end behind k names: 42, or the lemma is counted.
+fn lemma_end(start: Job, n: usize, k: usize) -> Reading
+    requires { ⌜ (start .lemmas < maxLemmas) × (k ≤ maxNames) ⌝ }
+    ensures { λ r. ⌜ r ≡ lemma start n k [] ⌝ }
+{
+    if k == 0 {
+        return refused(Reading::LEMMA_EMPTY, n);
+    }
+    let mut j = start;
+    let l = j.lemmas;
+    j.lengths[l] = k as u8;
+    j.lemmas = l + 1;
+    Reading {
+        verdict: Verdict::Accepted,
+        job: j,
+    }
+}
+
 // The lemma of line n, name by name.
 fn lemma_of(start: Job, s: &[u8], n: usize) -> Reading
     requires { ⌜ (start .lemmas < maxLemmas) × (start .program .steps ≤ maxSteps) × (start .program .variables ≤ maxSteps) ⌝ }
@@ -352,16 +371,7 @@ fn lemma_of(start: Job, s: &[u8], n: usize) -> Reading
         k += 1;
         at = e;
     }
-    if k == 0 {
-        return refused(Reading::LEMMA_EMPTY, n);
-    }
-    let l = j.lemmas;
-    j.lengths[l] = k as u8;
-    j.lemmas = l + 1;
-    Reading {
-        verdict: Verdict::Accepted,
-        job: j,
-    }
+    lemma_end(j, n, k)
 }
 
 // Line n behind `lemmas`, whose LF is there or not.

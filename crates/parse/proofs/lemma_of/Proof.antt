@@ -1,6 +1,6 @@
 -- `lemma_of` reads word by word: what is left from here gives the answer of the whole.
 use mir.Val.{toZ, ofZ}
-use Rattle.parse.proofs.LemmaLaws.{words-space, words-word, words-end, bare-part, sign-part, item-most, lemma-44, lemma-43, lemma-on, lemma-42, lemma-done}
+use Rattle.parse.proofs.LemmaLaws.{words-space, words-word, words-end, bare-part, sign-part, item-most, lemma-44, lemma-43, lemma-on}
 use Rattle.parse.specs.Lemmas.{lemma, words, itemOf, withItem, signed as signedItem, bare, negated}
 use Rattle.scan.proofs.WordLaws.{word-fits, word-part, end-more}
 use Rattle.scan.specs.Bytes.{wordAt}
@@ -188,34 +188,16 @@ loop-again-2 c =
           ∙ ap (λ (z : ℤ). lemma (withItem (o .loop .j) (o .loop .k) z) (a .n) (o .loop .k + 1) rest) (sym (stored c)),
     )
 
-refused-requires-3 : tie.Need-refused-requires-3 Inv-loop μ-loop
-refused-requires-3 c κs = search needs
+lemma-end-requires : tie.Need-lemma-end-requires Inv-loop μ-loop
+lemma-end-requires c κs = search needs
 
 returns-3 : tie.Need-returns-3 Inv-loop μ-loop
 returns-3 c =
-    let args′ = c .before .before .before .before .before .args in
-    let loop′ = c .before .before .before .loop in
-    let o = loop′ .inv in
-    let none = words-end (args′ .s .now) (loop′ .at) (omega arith) in
-    c .refused3 .ensures ∙ lemma-42 (loop′ .j) (args′ .n)
-    ∙ sym (o .5 ∙ ap (lemma (loop′ .j) (args′ .n) (loop′ .k)) none ∙ ap (λ (k : ℕ). lemma (loop′ .j) (args′ .n) k []) (c .before .if4 .taken))
-
-cast-j : tie.Need-cast-j Inv-loop μ-loop
-cast-j c = search needs
-
-element-write-j : tie.Need-element-write-j Inv-loop μ-loop
-element-write-j c = search needs
-
-add-j : tie.Need-add-j Inv-loop μ-loop
-add-j c = search needs
-
-returns-4 : tie.Need-returns-4 Inv-loop μ-loop
-returns-4 c =
-    let args′ = c .before .before .before .before .args in
+    let s = c .before .before .before .before .args .s .now in
+    let n = c .before .before .before .before .args .n in
     let loop′ = c .before .before .loop in
-    let none = words-end (args′ .s .now) (loop′ .at) (omega arith) in
-    lemma-done (loop′ .j) (args′ .n) (loop′ .k) (c .if4 .left)
-    ∙ sym (loop′ .inv .5 ∙ ap (lemma (loop′ .j) (args′ .n) (loop′ .k)) none)
+    let none = words-end s (loop′ .at) (omega arith) in
+    c .lemma-end .ensures ∙ sym (loop′ .inv .5 ∙ ap (lemma (loop′ .j) n (loop′ .k)) none)
 
 pub lemma-of-spec : {M : Type 1} → statement M
 lemma-of-spec =
@@ -244,9 +226,5 @@ lemma-of-spec =
     add-k
     loop-less-2
     loop-again-2
-    refused-requires-3
-    returns-3
-    cast-j
-    element-write-j
-    add-j
-    returns-4)
+    lemma-end-requires
+    returns-3)
