@@ -9,13 +9,13 @@ use borrow.Author.Tests.{leb-true, leb-false, le-leb, lt-leb}
 use lib.Dec.{leb}
 use lib.ListN.{length, take, drop, length-append, length-drop}
 use lib.Seq.{drop-nil}
+use Rattle.lists.specs.Pieces.{cut, starts}
 use Rattle.lists.specs.Writing.{write}
 use Rattle.lists.proofs.Logic.{split}
 use Rattle.lists.proofs.PieceLaws.{length-upTo}
 use Rattle.lists.proofs.WritingLaws.{length-write, write-none, write-more}
-use Rattle.lists.specs.Pieces.{starts}
 use Rattle.scan.specs.Bytes.{wordAt}
-use Rattle.scan.specs.Lines.{lines}
+use Rattle.scan.specs.Lines.{rows, lines}
 use Rattle.scan.proofs.LineLaws.{lines-at, lines-out}
 use Rattle.program.specs.ProgramLine.{isLemmas, isComment}
 use Rattle.text.specs.Numerals.{lf}
@@ -51,7 +51,7 @@ pub first-ends : (text : List ℕ) (e : ℕ) → e ≡ 0 + length (wordAt 10 tex
 first-ends text e k = omega (arith, length-upTo 10 (drop 0 text), length-drop 0 text)
 
 pub left-first : (text : List ℕ) (e : ℕ) → e ≡ 0 + length (wordAt 10 text 0) → remarks (lines (drop (e + 1) text)) ≡ comments text
-unfolding comments lines remarks
+unfolding comments lines rows cut remarks
 left-first [] e k = ap (λ s. remarks (lines s)) (drop-nil (e + 1))
 left-first (b ∷ bs) e k = ap (λ ls. remarks (drop 1 ls)) (sym (lines-at (b ∷ bs) 0 e (omega arith) k))
 

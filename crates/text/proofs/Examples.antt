@@ -7,9 +7,9 @@ use lib.ListN.{replicate}
 use Rattle.lists.specs.Rows.{each}
 use Rattle.lists.specs.Places.{passing, first}
 use Rattle.lists.specs.Tests.{every}
+use Rattle.lists.specs.Pieces.{cut, starts}
 use Rattle.job.specs.OneBit.{oneBit}
-use Rattle.lists.specs.Pieces.{starts}
-use Rattle.scan.specs.Lines.{lines, push}
+use Rattle.scan.specs.Lines.{lines, rows}
 use Rattle.program.specs.ProgramLine.{isLemmas, isComment}
 use Rattle.text.specs.Comments.{remarks, comments}
 use Rattle.text.specs.Comments as Comments
@@ -83,5 +83,5 @@ job =
     ++ (126 ∷ 97 ∷ 10 ∷ [])
 
 remark : comments job ≡ 99 ∷ 32 ∷ 126 ∷ 32 ∷ 111 ∷ 110 ∷ 101 ∷ 32 ∷ 98 ∷ 105 ∷ 116 ∷ 10 ∷ []
-unfolding job comments remarks Comments.remark isLemmas isComment lines push starts
+unfolding job comments remarks Comments.remark isLemmas isComment lines rows cut starts
 remark = refl
