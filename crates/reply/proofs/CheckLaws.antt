@@ -1,6 +1,6 @@
 -- The answer to a reply: one law for each way out of the open call.
 use mathlib.Core.Path.{_≡_, refl, sym, ap, _∙_}
-use mathlib.Core.Bool.{Bool, true, false, cond}
+use mathlib.Core.Bool.{true, false, cond}
 use mathlib.Core.List.{List, [], _∷_, _++_}
 use Prim.Native.Nat.{ℕ, _≤_, _<_}
 use native.Mathlib.Omega.{arith}
@@ -14,9 +14,6 @@ use Rattle.job.specs.Numbering.{total}
 use Rattle.job.specs.Clauses.{clauses}
 use Rattle.job.specs.Fitness.{fit}
 use Rattle.job.specs.Satisfaction.{falseClause}
-use Rattle.totals.specs.declared.Count.{Count}
-use Rattle.totals.specs.declared.Count.the-variants.{Totals, Refused as NoTotals}
-use Rattle.totals.specs.Totals.{totalsOf}
 use Rattle.cnf.specs.declared.Evaluation.{Evaluation}
 use Rattle.cnf.specs.declared.Evaluation.the-variants.{FirstFalse, Unfit}
 use Rattle.cnf.specs.Evaluation.{evaluation}
@@ -26,27 +23,6 @@ use Rattle.reply.specs.Reply.{Read, refusal, values, valuesRead}
 use Rattle.reply.specs.Check.{accepted, refused, maxReply, weighed, checked}
 use Rattle.reply.specs.Answers.{outcome, settled}
 use Rattle.reply.proofs.ReplyLaws.{read-values}
-
--- ---- the totals tell a fit table
-
-module _ (J : Job) (t : Count) (is : t ≡ totalsOf J) where
-  pub totals-known : (n c : ℕ) → t ≡ Totals n c → (fit J ≡ true) × (n ≡ total (J .program)) × (c ≡ length (clauses J))
-  unfolding totalsOf
-  totals-known n c e = go (fit J) refl (sym is ∙ e)
-    where
-      go : (b : Bool) → fit J ≡ b → cond b (Totals (total (J .program)) (length (clauses J))) (NoTotals (record { number = 45; place = 0 })) ≡ Totals n c
-          → (fit J ≡ true) × (n ≡ total (J .program)) × (c ≡ length (clauses J))
-      go true f q = (f, cc, cc)
-      go false f q = let z : _≡_ {A = ℕ} 0 1 = cc in absurd (omega arith)
-
-  pub totals-unknown : (r : Refusal) → t ≡ NoTotals r → fit J ≡ false
-  unfolding totalsOf
-  totals-unknown r e = go (fit J) refl (sym is ∙ e)
-    where
-      go : (b : Bool) → fit J ≡ b → cond b (Totals (total (J .program)) (length (clauses J))) (NoTotals (record { number = 45; place = 0 })) ≡ NoTotals r
-          → fit J ≡ false
-      go true f q = let z : _≡_ {A = ℕ} 0 1 = cc in absurd (omega arith)
-      go false f q = f
 
 -- ---- the evaluation of a fit table's clauses
 

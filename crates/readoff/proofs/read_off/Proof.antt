@@ -3,7 +3,8 @@ use mathlib.Core.Path.{ap, _∙_}
 use borrow.Author.Needs.{needs}
 use Rattle.job.proofs.FitnessLaws.{fit-sizes}
 use Rattle.readoff.specs.declared.Told.the-variants.{Refused}
-use Rattle.readoff.proofs.AnswerLaws.{totals-fit, totals-unfit, fit-read, unfit-read}
+use Rattle.totals.proofs.AnswerLaws.{totals-fit, totals-unfit}
+use Rattle.readoff.proofs.AnswerLaws.{fit-read, unfit-read}
 use Rattle.readoff.proofs.read_off.Statement.{statement}
 use Rattle.readoff.proofs.read_off.Tie as tie
 

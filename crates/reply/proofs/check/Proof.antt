@@ -3,7 +3,8 @@ use mathlib.Core.Path.{sym}
 use native.Mathlib.Omega.{arith}
 use borrow.Author.Needs.{needs}
 use lib.Seq.{length-take-le}
-use Rattle.reply.proofs.CheckLaws.{totals-known, totals-unknown, is-45, is-51, is-60, is-refused, is-accepted, is-65}
+use Rattle.totals.proofs.AnswerLaws.{totals-fit, totals-unfit}
+use Rattle.reply.proofs.CheckLaws.{is-45, is-51, is-60, is-refused, is-accepted, is-65}
 use Rattle.reply.proofs.check.Statement.{statement}
 use Rattle.reply.proofs.check.Tie as tie
 
@@ -24,7 +25,7 @@ returns c =
     let a = c .before .before .before .before .before .before .args in
     let t = c .before .before .before .totals in
     let g = c .before .enum-told .given in
-    let unfit = totals-unknown (a .j) (t .result) (t .ensures) (g .0 .0) (g .1) in
+    let unfit = totals-unfit (a .j) (t .result) (t .ensures) (g .0 .0) (g .1) .0 in
     rw (c .refused .ensures) (is-45 (a .j) (a .reply .now) (a .work .now) unfit)
 
 refused-requires-2 : tie.Need-refused-requires-2
@@ -35,7 +36,7 @@ returns-2 c =
     let a = c .before .before .before .before .before .before .before .before .args in
     let t = c .before .before .before .before .before .totals in
     let g = c .before .before .before .n .given in
-    let k = totals-known (a .j) (t .result) (t .ensures) (g .0 .0) (g .0 .1 .0) (g .1) in
+    let k = totals-fit (a .j) (t .result) (t .ensures) (g .0 .0) (g .0 .1 .0) (g .1) in
     rw (c .refused2 .ensures) (is-51 (a .j) (a .reply .now) (a .work .now) (k .0) (g .0 .0) (k .1) (c .before .if1 .taken))
 
 refused-requires-3 : tie.Need-refused-requires-3
@@ -46,7 +47,7 @@ returns-3 c =
     let a = c .before .before .before .before .before .before .before .before .before .args in
     let t = c .before .before .before .before .before .before .totals in
     let g = c .before .before .before .before .n .given in
-    let k = totals-known (a .j) (t .result) (t .ensures) (g .0 .0) (g .0 .1 .0) (g .1) in
+    let k = totals-fit (a .j) (t .result) (t .ensures) (g .0 .0) (g .0 .1 .0) (g .1) in
     rw (c .refused3 .ensures) (is-60 (a .j) (a .reply .now) (a .work .now) (k .0) (g .0 .0) (k .1) (omega arith) (c .before .if2 .taken))
 
 read-reply-requires : tie.Need-read-reply-requires
@@ -66,7 +67,7 @@ returns-4 c =
     let a = c .before .before .before .before .before .before .before .before .before .before .before .before .before .before .args in
     let t = c .before .before .before .before .before .before .before .before .before .before .before .totals in
     let g = c .before .before .before .before .before .before .before .before .before .n .given in
-    let k = totals-known (a .j) (t .result) (t .ensures) (g .0 .0) (g .0 .1 .0) (g .1) in
+    let k = totals-fit (a .j) (t .result) (t .ensures) (g .0 .0) (g .0 .1 .0) (g .1) in
     let r = c .before .before .before .before .read-reply in
     let x = c .enum-told3 .given in
     is-refused (a .j) (a .reply .now) (a .work .now) (k .0) (g .0 .0) (k .1) (omega arith) (omega arith)
@@ -85,7 +86,7 @@ false-clause-requires c κs =
     let a = c .before .before .before .before .before .before .before .before .before .before .before .before .before .before .before .args in
     let t = c .before .before .before .before .before .before .before .before .before .before .before .before .totals in
     let g = c .before .before .before .before .before .before .before .before .before .before .n .given in
-    totals-known (a .j) (t .result) (t .ensures) (g .0 .0) (g .0 .1 .0) (g .1) .0
+    totals-fit (a .j) (t .result) (t .ensures) (g .0 .0) (g .0 .1 .0) (g .1) .0
 
 same-length-2 : tie.Need-same-length-2
 same-length-2 c = search needs
@@ -95,7 +96,7 @@ returns-5 c =
     let a = c .before .before .before .before .before .before .before .before .before .before .before .before .before .before .before .before .before .args in
     let t = c .before .before .before .before .before .before .before .before .before .before .before .before .before .before .totals in
     let g = c .before .before .before .before .before .before .before .before .before .before .before .before .n .given in
-    let k = totals-known (a .j) (t .result) (t .ensures) (g .0 .0) (g .0 .1 .0) (g .1) in
+    let k = totals-fit (a .j) (t .result) (t .ensures) (g .0 .0) (g .0 .1 .0) (g .1) in
     let r = c .before .before .before .before .before .before .before .read-reply in
     let f = c .before .false-clause in
     is-accepted (a .j) (a .reply .now) (a .work .now) (k .0) (g .0 .0) (k .1) (omega arith) (omega arith)
@@ -112,7 +113,7 @@ returns-6 c =
     let a = c .before .before .before .before .before .before .before .before .before .before .before .before .before .before .before .before .before .before .args in
     let t = c .before .before .before .before .before .before .before .before .before .before .before .before .before .before .before .totals in
     let g = c .before .before .before .before .before .before .before .before .before .before .before .before .before .n .given in
-    let k = totals-known (a .j) (t .result) (t .ensures) (g .0 .0) (g .0 .1 .0) (g .1) in
+    let k = totals-fit (a .j) (t .result) (t .ensures) (g .0 .0) (g .0 .1 .0) (g .1) in
     let r = c .before .before .before .before .before .before .before .before .read-reply in
     let f = c .before .before .false-clause in
     rw (c .refused4 .ensures) (is-65 (a .j) (a .reply .now) (a .work .now) (k .0) (g .0 .0) (k .1) (omega arith) (omega arith)
