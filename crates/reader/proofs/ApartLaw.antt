@@ -33,7 +33,7 @@ use denote.Triple.Statement.{Contract, Triple}
 use denote.Triple.Call.{calls-at}
 use denote.Triple.Entry.{Vals, onEntry}
 use denote.Triple.Spec.{Meets, tripleOf}
-use denote.Triple.Walked.{says, Stays, stay-none, walkOf, goes-none, Walks, ends-at, walked, walk-meets}
+use denote.Triple.Walked.{says, Stays, stay-none, walkOf, goes-none, ends-at, walked, walk-meets}
 use denote.Exit.{yes}
 use denote.Triple.Clauses.{ensured, lasts, closing}
 use Rattle.reader.specs.declared.Reader.{Reader}
@@ -44,12 +44,15 @@ use Rattle.reader.proofs.Shapes.{Held, Plain, held, given-plain}
 -- f's code, by the machine's type of R and by g
 abbrev pub apart : Ty → Name → Fn
 apart τ g = record {
-  lifetimes = 1; outlives = []; params = 2;
+  lifetimes = 1;
+  outlives = [];
+  params = 2;
   locals = local τ valueLocal ∷ local (T′.mir (named 0)) valueLocal ∷ local (tyInt w64) valueLocal ∷ local (tyStruct (38 ∷ 91 ∷ 93 ∷ []) (tcons (tyRef erased imm (tyInt w8)) (tcons (tyInt w64) tnil))) valueLocal ∷ local (tyInt w64) valueLocal ∷ [];
   body =
-    seq (assign (place 3 []) (rvOpd (copy (place 1 (field 0 ∷ [])))))
-    (seq (assign (place 4 []) (rvOpd (copy (place 1 (field 1 ∷ [])))))
-    (seq (call g (copy (place 3 []) ∷ copy (place 4 []) ∷ copy (place 2 []) ∷ []) (place 0 [])) return)) }
+      seq (assign (place 3 []) (rvOpd (copy (place 1 (field 0 ∷ [])))))
+      (seq (assign (place 4 []) (rvOpd (copy (place 1 (field 1 ∷ [])))))
+      (seq (call g (copy (place 3 []) ∷ copy (place 4 []) ∷ copy (place 2 []) ∷ []) (place 0 [])) return));
+}
 
 -- the reader's type, over the signature's lifetimes
 abbrev B : Lfts 1 → RattleType

@@ -44,11 +44,14 @@ use Rattle.reader.proofs.new.Symbol.{name as #reader·new}
 -- f_at's code, by the machine's type of R and by f
 abbrev pub made : Ty → Name → Fn
 made τ f = record {
-  lifetimes = 1; outlives = []; params = 3;
+  lifetimes = 1;
+  outlives = [];
+  params = 3;
   locals = local τ valueLocal ∷ local (tyStruct (38 ∷ 91 ∷ 93 ∷ []) (tcons (tyRef (named 0) imm (tyInt w8)) (tcons (tyInt w64) tnil))) valueLocal ∷ local (tyInt w64) valueLocal ∷ local (tyInt w64) valueLocal ∷ local (T′.mir erased) valueLocal ∷ [];
   body =
-    seq (call #reader·new (copy (place 1 []) ∷ copy (place 2 []) ∷ []) (place 4 []))
-    (seq (call f (copy (place 4 []) ∷ copy (place 3 []) ∷ []) (place 0 [])) return) }
+      seq (call #reader·new (copy (place 1 []) ∷ copy (place 2 []) ∷ []) (place 4 []))
+      (seq (call f (copy (place 4 []) ∷ copy (place 3 []) ∷ []) (place 0 [])) return);
+}
 
 -- the reader's type, over the signature's lifetimes
 abbrev B : Lfts 1 → RattleType
