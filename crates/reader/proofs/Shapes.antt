@@ -15,22 +15,22 @@ use Rattle.reader.proofs.Reader as T
 
 module _ (R : RattleType) where
   -- (r: Reader, to: usize) -> R
-  abbrev pub Held : Ended
-  Held = record {
+  abbrev pub OfReader : Ended
+  OfReader = record {
     signature = record { lifetimes = 1; outlives = []; params = plain (λ κs. T.the-row (namedLft 1 0 tt κs)) ∷ plain (λ κs. usize) ∷ []; result = plain (λ κs. R) };
     kept = (yes, (yes, tt));
   }
 
   -- (s: &[u8], at: usize, to: usize) -> R
-  abbrev pub Plain : Ended
-  Plain = record {
+  abbrev pub OfText : Ended
+  OfText = record {
     signature = record { lifetimes = 1; outlives = []; params = SliceRefOf (0 ∷ []) tt (plain (λ κs. u8)) (λ κs. tt) ∷ plain (λ κs. usize) ∷ plain (λ κs. usize) ∷ []; result = plain (λ κs. R) };
     kept = (yes, (yes, (yes, tt)));
   }
 
   module _ {M : Type 1} (𝓤 : URA M) (found : List ℕ → ℕ → ℕ → R .Denot) where
-    abbrev pub held : Clauses 𝓤 Held
-    held κs a = record { ghost = Unit {0}; requires = λ _. emp 𝓤; ensures = λ _ x _. fact 𝓤 (x ≡ found (now (a .0 .src)) (a .0 .at) (a .1 .0)) }
+    abbrev pub reader-says : Clauses 𝓤 OfReader
+    reader-says κs a = record { ghost = Unit {0}; requires = λ _. emp 𝓤; ensures = λ _ x _. fact 𝓤 (x ≡ found (now (a .0 .src)) (a .0 .at) (a .1 .0)) }
 
-    abbrev pub given-plain : Clauses 𝓤 Plain
-    given-plain κs a = record { ghost = Unit {0}; requires = λ _. emp 𝓤; ensures = λ _ x _. fact 𝓤 (x ≡ found (now (a .0)) (a .1 .0) (a .1 .1 .0)) }
+    abbrev pub text-says : Clauses 𝓤 OfText
+    text-says κs a = record { ghost = Unit {0}; requires = λ _. emp 𝓤; ensures = λ _ x _. fact 𝓤 (x ≡ found (now (a .0)) (a .1 .0) (a .1 .1 .0)) }

@@ -1,5 +1,5 @@
-// One reader keeps the reply and the place in it. Each function over it is thin: it is taken apart and handed to one function with a
-// slice and numbers. The checker calls those with plain parameters, which make a reader and ask it.
+// One reader keeps the reply and the place in it. Each function over it is thin, since its proof is by hand: the reader is taken apart
+// and handed to one function with a slice and numbers. Others call those with plain parameters, which make a reader and ask it.
 ghost use mathlib.Core.Path.{_≡_};
 ghost use Prim.Native.Nat.{_+_};
 ghost use lib.ListN.{length};
@@ -13,12 +13,14 @@ pub struct Reader<'a> {
     pub at: usize,
 }
 
+// What `line` calls.
 fn line_from(s: &[u8], at: usize) -> usize
     ensures { λ r. ⌜ r ≡ at + length (upTo 10 (slice at (length (now (s .entry))) (now (s .entry)))) ⌝ }
 {
     tokens::find(s, 10, at, s.len())
 }
 
+// What `word` calls.
 fn word_from(s: &[u8], at: usize, to: usize) -> usize
     ensures { λ r. ⌜ r ≡ at + length (upTo 32 (slice at to (now (s .entry)))) ⌝ }
 {
@@ -59,6 +61,7 @@ fn token<'a>(r: Reader<'a>, to: usize) -> tokens::Token
     tokens::token_at(r.src, r.at, to)
 }
 
+// The same of the reply at a place.
 pub fn line_at(s: &[u8], at: usize) -> usize
     ensures { λ r. ⌜ r ≡ at + length (upTo 10 (slice at (length (now (s .entry))) (now (s .entry)))) ⌝ }
 {

@@ -113,7 +113,9 @@ module _ {M : Type 1} (𝓤 : URA M) (H : Heap 𝓤) (A : Atoms 𝓤) (mem : Mem
     to = ((κs, (q, (q′, tt)), tt, (d .src, (d .at, (n, (t, tt)))), passed), tt)
 
     asked : ent 𝓤 (onEntry 𝓤 H A begun.signature κs (q, (q′, tt)) (d .src, (d .at, (n, (t, tt)))) passed) (Callee .pre to)
-    asked = qed W ((‵ (flft κ q) ⊛ ‵ (flft κ′ q′) ⊛ ‵ ftrue) ∷ ‵ (owns (ShrSlice (named 0) κ u8 ∷ usize ∷ usize ∷ ShrSlice (named 1) κ′ u8 ∷ []) (d .src, (d .at, (n, (t, tt)))) passed) ∷ []) ∵ join ! $ frame ! $ done !
+    asked =
+        qed W ((‵ (flft κ q) ⊛ ‵ (flft κ′ q′) ⊛ ‵ ftrue) ∷ ‵ (owns (ShrSlice (named 0) κ u8 ∷ usize ∷ usize ∷ ShrSlice (named 1) κ′ u8 ∷ []) (d .src, (d .at, (n, (t, tt)))) passed) ∷ []) ∵
+        join ! $ frame ! $ done !
 
     -- what the reader and t own gives what the callee asks, and is kept
     parted : d .at < 2 ^ 64 → ent 𝓤 (onEntry 𝓤 H A begins.signature κs (q, (q′, tt)) (d, (n, (t, tt))) at) (sep 𝓤 (Callee .pre to) (sep 𝓤 (sem 𝓤 H A Own) (sem 𝓤 H A Text)))
@@ -122,9 +124,11 @@ module _ {M : Type 1} (𝓤 : URA M) (H : Heap 𝓤) (A : Atoms 𝓤) (mem : Mem
         move ! (1 ∷ []) $ fsplit ! $ move ! (1 ∷ []) $ fsplit ! $ drop ! $ fsplit ! $ move ! (1 ∷ []) $ drop ! $
         use1 W (‵ Text ⊛ ‵ Text) (shr-slice-copy 𝓤 H A W (named 1) κ′ u8 .twice t (w ∷ [])) $ split ! $ move ! (2 ∷ []) $
         use1 W (‵ Own ⊛ ‵ Own) (LL.copy (D κs) (T′.the-copy (namedLft 2 0 tt κs)) 𝓤 H A W .twice d (mach ∷ [])) $ split ! $
-        use1 W (given (mach ∷ [] ≡ mach ∷ []) (‵ (all-own (D κs .parts) (L κs) vd))) (own-open 𝓤 H A W (D κs) (L κs) vd mach) $ learn ! (λ _. use1 W (‵ (ownAt (D κs .parts) (L κs) 0 (d .src)) ⊛ ‵ (rest (D κs .parts) (L κs) 0 vd)) (own-out 𝓤 H A W (D κs .parts) (L κs) 0 vd) $ split ! $
+        use1 W (given (mach ∷ [] ≡ mach ∷ []) (‵ (all-own (D κs .parts) (L κs) vd))) (own-open 𝓤 H A W (D κs) (L κs) vd mach) $
+        learn ! (λ _. use1 W (‵ (ownAt (D κs .parts) (L κs) 0 (d .src)) ⊛ ‵ (rest (D κs .parts) (L κs) 0 vd)) (own-out 𝓤 H A W (D κs .parts) (L κs) 0 vd) $ split ! $
         -- [what src owns; what at owns; what the reader owns; what t owns; the same; the tokens]
-        move ! (1 ∷ []) $ drop ! $ nothing ! $ move ! (3 ∷ 0 ∷ []) $ fjoin ! $ owned ! usize (Is usize) (uint-makes 𝓤 H A W w64) n _ (refl, ok) $ fjoin ! $ owned ! usize (Is usize) (uint-makes 𝓤 H A W w64) (d .at) _ (refl, fits) $ fjoin ! $ move ! (1 ∷ 0 ∷ []) $ fjoin ! $
+        move ! (1 ∷ []) $ drop ! $ nothing ! $ move ! (3 ∷ 0 ∷ []) $ fjoin ! $ owned ! usize (Is usize) (uint-makes 𝓤 H A W w64) n _ (refl, ok) $ fjoin ! $
+        owned ! usize (Is usize) (uint-makes 𝓤 H A W w64) (d .at) _ (refl, fits) $ fjoin ! $ move ! (1 ∷ 0 ∷ []) $ fjoin ! $
         move ! (3 ∷ 0 ∷ []) $ use2 W (raw (Callee .pre to)) asked $ frame ! $ frame ! $ done !)
 
     -- of what the callee ensures, the clause alone: there is no `&mut`, so what is said of last values is dropped
@@ -135,13 +139,16 @@ module _ {M : Type 1} (𝓤 : URA M) (H : Heap 𝓤) (A : Atoms 𝓤) (mem : Mem
     exits x u e =
         qed W (‵ (bool .own x (u ∷ [])) ∷ (‵ (flft κ q) ⊛ ‵ (flft κ′ q′) ⊛ ‵ ftrue) ∷ (‵ Own ⊛ ‵ Text) ∷ []) ∵
         suffices ! _ (ends-at 𝓤 H A begins.ended stayed (begins.clauses 𝓤 H A mem run) W ((κs, (q, (q′, tt)), tt, (d, (n, (t, tt))), at), tt) u x (tt, (tt, (tt, tt))) (tt, (tt, (tt, tt)))) $ says ! e $
-        move ! (1 ∷ []) $ frame ! $ move ! (1 ∷ []) $ split ! $ nothing ! $ move ! (2 ∷ 0 ∷ []) $ fjoin ! $ owned ! usize (Is usize) (uint-makes 𝓤 H A W w64) n _ (refl, ok) $ fjoin ! $ move ! (1 ∷ 0 ∷ []) $ fjoin ! $ frame ! $ done !
+        move ! (1 ∷ []) $ frame ! $ move ! (1 ∷ []) $ split ! $ nothing ! $ move ! (2 ∷ 0 ∷ []) $ fjoin ! $ owned ! usize (Is usize) (uint-makes 𝓤 H A W w64) n _ (refl, ok) $
+        fjoin ! $ move ! (1 ∷ 0 ∷ []) $ fjoin ! $ frame ! $ done !
 
     module _ (C : Calls 𝓤 H) (Λ : Loops 𝓤 H) (fm : FmC 𝓤 H (W .laws) C) (known : Triple 𝓤 (C #tokens·begins) Callee) where
-      walk : Holds (hasTy (T′.mir (named 0)) mach) × WT mach → Is (ShrSlice (named 1) κ′ u8) t (w ∷ []) → ent 𝓤 (onEntry 𝓤 H A begins.signature κs (q, (q′, tt)) (d, (n, (t, tt))) at) (WpFn 𝓤 H C Λ code.function (mach ∷ vint w64 n ∷ w ∷ []) Post)
+      walk : Holds (hasTy (T′.mir (named 0)) mach) × WT mach → Is (ShrSlice (named 1) κ′ u8) t (w ∷ [])
+          → ent 𝓤 (onEntry 𝓤 H A begins.signature κs (q, (q′, tt)) (d, (n, (t, tt))) at) (WpFn 𝓤 H C Λ code.function (mach ∷ vint w64 n ∷ w ∷ []) Post)
       walk wt p =
           qed W (raw (onEntry 𝓤 H A begins.signature κs (q, (q′, tt)) (d, (n, (t, tt))) at) ∷ []) ∵ enter ! C Λ code.function (mach ∷ vint w64 n ∷ w ∷ []) _ $
-          alloc1 ! (λ l₀. alloc1 ! (λ l₁. alloc1 ! (λ l₂. alloc1 ! (λ l₃. alloc1 ! (λ l₄. alloc1 ! (λ l₅. alloc0 ! $ params1 ! $ pass1 ! (init ! 8 refl wt) $ pass1 ! (init ! 6 refl (tt, record { fits = ok })) $ pass1 ! (init ! 4 refl (shr-slice-lawful 𝓤 H A W (named 1) κ′ u8 .typed t (w ∷ []) p .0)) $ pass0 ! $
+          alloc1 ! (λ l₀. alloc1 ! (λ l₁. alloc1 ! (λ l₂. alloc1 ! (λ l₃. alloc1 ! (λ l₄. alloc1 ! (λ l₅. alloc0 ! $ params1 ! $ pass1 ! (init ! 8 refl wt) $
+          pass1 ! (init ! 6 refl (tt, record { fits = ok })) $ pass1 ! (init ! 4 refl (shr-slice-lawful 𝓤 H A W (named 1) κ′ u8 .typed t (w ∷ []) p .0)) $ pass0 ! $
           assigns ! (of-opd ! (load ! (from ! (fld ! refl (stop !))) (look-in ! 8 (sub ! 0 refl (whole !))))) (from ! (stop !)) (init ! 2 refl (tt, wt .1 .0)) $
           assigns ! (of-opd ! (load ! (from ! (fld ! refl (stop !))) (look-in ! 8 (sub ! 1 refl (whole !))))) (from ! (stop !)) (init ! 0 refl (tt, wt .1 .1 .0)) $
           move ! (12 ∷ []) $ use1 W (raw (Callee .pre to) ⊛ (‵ Own ⊛ ‵ Text)) (parted (wt .1 .1 .0 .fits)) $ split ! $
@@ -152,7 +159,8 @@ module _ {M : Type 1} (𝓤 : URA M) (H : Heap 𝓤) (A : Atoms 𝓤) (mem : Mem
           peeks ! bool (Is bool) (shows 𝓤 H A bool) x (u ∷ []) (λ is.
           land ! (from ! (stop !)) (init ! 13 refl (bool-lawful 𝓤 H A W .typed x _ is .0)) $
           returns ! (look ! 13 refl) $ forget ! 3 refl $ forget ! 5 refl $ forget ! 7 refl $ forget ! 9 refl $ forget ! 11 refl $ forget ! 13 refl $
-          move ! (13 ∷ 14 ∷ []) $ free1 ! $ move ! (11 ∷ 12 ∷ []) $ free1 ! $ move ! (9 ∷ 10 ∷ []) $ free1 ! $ move ! (7 ∷ 8 ∷ []) $ free1 ! $ move ! (5 ∷ 6 ∷ []) $ free1 ! $ move ! (3 ∷ 4 ∷ []) $ free1 ! $ free0 ! $ by ! (exits x u e)))))))))))
+          move ! (13 ∷ 14 ∷ []) $ free1 ! $ move ! (11 ∷ 12 ∷ []) $ free1 ! $ move ! (9 ∷ 10 ∷ []) $ free1 ! $ move ! (7 ∷ 8 ∷ []) $ free1 ! $ move ! (5 ∷ 6 ∷ []) $ free1 ! $
+          move ! (3 ∷ 4 ∷ []) $ free1 ! $ free0 ! $ by ! (exits x u e)))))))))))
 
   begins-meets : (W : Given 𝓤 H A) (𝓣 : Tables 𝓤 H) → Triple 𝓤 (𝓣 .C #tokens·begins) Callee
       → Meets 𝓤 H A begins.signature (WpFn 𝓤 H (𝓣 .C) (𝓣 .Λ) code.function) (begins.spec 𝓤 H A mem run)

@@ -105,7 +105,9 @@ module _ {M : Type 1} (𝓤 : URA M) (H : Heap 𝓤) (A : Atoms 𝓤) (mem : Mem
     to-new = (((κ, tt), (q, tt), tt, (s, (n, tt)), (v ∷ [], (vint w64 n ∷ [], tt))), tt)
 
     new-asked : ent 𝓤 (onEntry 𝓤 H A new.signature (κ, tt) (q, tt) (s, (n, tt)) (v ∷ [], (vint w64 n ∷ [], tt))) (New .pre to-new)
-    new-asked = qed W ((‵ (flft κ q) ⊛ ‵ ftrue) ∷ ‵ (owns (ShrSlice (named 0) κ u8 ∷ usize ∷ []) (s, (n, tt)) (v ∷ [], (vint w64 n ∷ [], tt))) ∷ []) ∵ join ! $ frame ! $ done !
+    new-asked =
+        qed W ((‵ (flft κ q) ⊛ ‵ ftrue) ∷ ‵ (owns (ShrSlice (named 0) κ u8 ∷ usize ∷ []) (s, (n, tt)) (v ∷ [], (vint w64 n ∷ [], tt))) ∷ []) ∵
+        join ! $ frame ! $ done !
 
     goes-new : ent 𝓤 (onEntry 𝓤 H A begins-at.signature κs (q, (q′, tt)) (s, (n, (m, (t, tt)))) at) (sep 𝓤 (New .pre to-new) (sep 𝓤 (sep 𝓤 (sem 𝓤 H A Text) (A .lft κ′ q′)) (sep 𝓤 (sem 𝓤 H A Own) (sem 𝓤 H A Text))))
     goes-new =
@@ -126,30 +128,41 @@ module _ {M : Type 1} (𝓤 : URA M) (H : Heap 𝓤) (A : Atoms 𝓤) (mem : Mem
     abbrev to-asked : Reader → Val → Asked .Ghost
     to-asked r u = ((κs, (q, (q′, tt)), tt, (r, (m, (t, tt))), (u ∷ [], (vint w64 m ∷ [], (w ∷ [], tt)))), tt)
 
-    asked : (r : Reader) (u : Val) → ent 𝓤 (onEntry 𝓤 H A begins.signature κs (q, (q′, tt)) (r, (m, (t, tt))) (u ∷ [], (vint w64 m ∷ [], (w ∷ [], tt)))) (Asked .pre (to-asked r u))
-    asked r u = qed W ((‵ (flft κ q) ⊛ ‵ (flft κ′ q′) ⊛ ‵ ftrue) ∷ ‵ (owns (B κs ∷ usize ∷ ShrSlice (named 1) κ′ u8 ∷ []) (r, (m, (t, tt))) (u ∷ [], (vint w64 m ∷ [], (w ∷ [], tt)))) ∷ []) ∵ join ! $ frame ! $ done !
+    asked : (r : Reader) (u : Val)
+        → ent 𝓤 (onEntry 𝓤 H A begins.signature κs (q, (q′, tt)) (r, (m, (t, tt))) (u ∷ [], (vint w64 m ∷ [], (w ∷ [], tt)))) (Asked .pre (to-asked r u))
+    asked r u =
+        qed W ((‵ (flft κ q) ⊛ ‵ (flft κ′ q′) ⊛ ‵ ftrue) ∷ ‵ (owns (B κs ∷ usize ∷ ShrSlice (named 1) κ′ u8 ∷ []) (r, (m, (t, tt))) (u ∷ [], (vint w64 m ∷ [], (w ∷ [], tt)))) ∷ []) ∵
+        join ! $ frame ! $ done !
 
-    goes-asked : (r : Reader) (u : Val) → ent 𝓤 (⋆ 𝓤 H A (‵ (B κs .own r (u ∷ [])) ∷ (‵ (flft κ q) ⊛ ‵ ftrue) ∷ ((‵ Text ⊛ ‵ (flft κ′ q′)) ⊛ (‵ Own ⊛ ‵ Text)) ∷ [])) (sep 𝓤 (Asked .pre (to-asked r u)) (sep 𝓤 (sem 𝓤 H A Own) (sem 𝓤 H A Text)))
+    goes-asked : (r : Reader) (u : Val)
+        → ent 𝓤 (⋆ 𝓤 H A (‵ (B κs .own r (u ∷ [])) ∷ (‵ (flft κ q) ⊛ ‵ ftrue) ∷ ((‵ Text ⊛ ‵ (flft κ′ q′)) ⊛ (‵ Own ⊛ ‵ Text)) ∷ [])) (sep 𝓤 (Asked .pre (to-asked r u)) (sep 𝓤 (sem 𝓤 H A Own) (sem 𝓤 H A Text)))
     goes-asked r u =
         qed W (‵ (B κs .own r (u ∷ [])) ∷ (‵ (flft κ q) ⊛ ‵ ftrue) ∷ ((‵ Text ⊛ ‵ (flft κ′ q′)) ⊛ (‵ Own ⊛ ‵ Text)) ∷ []) ∵
-        move ! (2 ∷ []) $ split ! $ split ! $ nothing ! $ move ! (1 ∷ 0 ∷ []) $ fjoin ! $ owned ! usize (Is usize) (uint-makes 𝓤 H A W w64) m _ (refl, fits) $ fjoin ! $ move ! (3 ∷ 0 ∷ []) $ fjoin ! $
+        move ! (2 ∷ []) $ split ! $ split ! $ nothing ! $ move ! (1 ∷ 0 ∷ []) $ fjoin ! $ owned ! usize (Is usize) (uint-makes 𝓤 H A W w64) m _ (refl, fits) $ fjoin ! $
+        move ! (3 ∷ 0 ∷ []) $ fjoin ! $
         -- [what `begins` is passed owns; the second token; what is kept; the first token]
         move ! (3 ∷ []) $ split ! $ move ! (3 ∷ 1 ∷ []) $ join ! $ move ! (1 ∷ 0 ∷ []) $ join ! $ use2 W (raw (Asked .pre (to-asked r u))) (asked r u) $ frame ! $ done !
 
-    asked-said : (r : Reader) (x : Bool) → ent 𝓤 (ensured 𝓤 H A begins.ended (begins.clauses 𝓤 H A mem run) κs (r, (m, (t, tt))) tt x) (fact 𝓤 (x ≡ found (now (r .src)) (r .at) m (now t)))
+    asked-said : (r : Reader) (x : Bool)
+        → ent 𝓤 (ensured 𝓤 H A begins.ended (begins.clauses 𝓤 H A mem run) κs (r, (m, (t, tt))) tt x) (fact 𝓤 (x ≡ found (now (r .src)) (r .at) m (now t)))
     asked-said r x = exE 𝓤 _ (λ ws. snd∗ 𝓤 (sem 𝓤 H A (lasts begins.ended κs (r, (m, (t, tt))) ws)) (fact 𝓤 (x ≡ found (now (r .src)) (r .at) m (now t))))
 
-    exits : (x : Bool) (u : Val) → x ≡ found (now s) n m (now t) → ent 𝓤 (⋆ 𝓤 H A (‵ (bool .own x (u ∷ [])) ∷ (‵ (flft κ q) ⊛ ‵ (flft κ′ q′) ⊛ ‵ ftrue) ∷ (‵ Own ⊛ ‵ Text) ∷ [])) (Post u)
+    exits : (x : Bool) (u : Val) → x ≡ found (now s) n m (now t)
+        → ent 𝓤 (⋆ 𝓤 H A (‵ (bool .own x (u ∷ [])) ∷ (‵ (flft κ q) ⊛ ‵ (flft κ′ q′) ⊛ ‵ ftrue) ∷ (‵ Own ⊛ ‵ Text) ∷ [])) (Post u)
     exits x u e =
         qed W (‵ (bool .own x (u ∷ [])) ∷ (‵ (flft κ q) ⊛ ‵ (flft κ′ q′) ⊛ ‵ ftrue) ∷ (‵ Own ⊛ ‵ Text) ∷ []) ∵
         suffices ! _ (ends-at 𝓤 H A begins-at.ended stayed (begins-at.clauses 𝓤 H A mem run) W ((κs, (q, (q′, tt)), tt, (s, (n, (m, (t, tt)))), at), tt) u x (tt, (tt, (tt, (tt, tt)))) (tt, (tt, (tt, (tt, tt))))) $ says ! e $
-        move ! (1 ∷ []) $ frame ! $ move ! (1 ∷ []) $ split ! $ nothing ! $ move ! (2 ∷ 0 ∷ []) $ fjoin ! $ owned ! usize (Is usize) (uint-makes 𝓤 H A W w64) m _ (refl, fits) $ fjoin ! $ owned ! usize (Is usize) (uint-makes 𝓤 H A W w64) n _ (refl, ok) $ fjoin ! $ move ! (1 ∷ 0 ∷ []) $ fjoin ! $ frame ! $ done !
+        move ! (1 ∷ []) $ frame ! $ move ! (1 ∷ []) $ split ! $ nothing ! $ move ! (2 ∷ 0 ∷ []) $ fjoin ! $ owned ! usize (Is usize) (uint-makes 𝓤 H A W w64) m _ (refl, fits) $
+        fjoin ! $ owned ! usize (Is usize) (uint-makes 𝓤 H A W w64) n _ (refl, ok) $ fjoin ! $ move ! (1 ∷ 0 ∷ []) $ fjoin ! $ frame ! $ done !
 
     module _ (C : Calls 𝓤 H) (Λ : Loops 𝓤 H) (fm : FmC 𝓤 H (W .laws) C) (known-new : Triple 𝓤 (C #reader·new) New) (known : Triple 𝓤 (C #reader·begins) Asked) where
-      walk : Is (ShrSlice (named 0) κ u8) s (v ∷ []) → Is (ShrSlice (named 1) κ′ u8) t (w ∷ []) → ent 𝓤 (onEntry 𝓤 H A begins-at.signature κs (q, (q′, tt)) (s, (n, (m, (t, tt)))) at) (WpFn 𝓤 H C Λ code.function (v ∷ vint w64 n ∷ vint w64 m ∷ w ∷ []) Post)
+      walk : Is (ShrSlice (named 0) κ u8) s (v ∷ []) → Is (ShrSlice (named 1) κ′ u8) t (w ∷ [])
+          → ent 𝓤 (onEntry 𝓤 H A begins-at.signature κs (q, (q′, tt)) (s, (n, (m, (t, tt)))) at) (WpFn 𝓤 H C Λ code.function (v ∷ vint w64 n ∷ vint w64 m ∷ w ∷ []) Post)
       walk p p′ =
           qed W (raw (onEntry 𝓤 H A begins-at.signature κs (q, (q′, tt)) (s, (n, (m, (t, tt)))) at) ∷ []) ∵ enter ! C Λ code.function (v ∷ vint w64 n ∷ vint w64 m ∷ w ∷ []) _ $
-          alloc1 ! (λ l₀. alloc1 ! (λ l₁. alloc1 ! (λ l₂. alloc1 ! (λ l₃. alloc1 ! (λ l₄. alloc1 ! (λ l₅. alloc0 ! $ params1 ! $ pass1 ! (init ! 8 refl (shr-slice-lawful 𝓤 H A W (named 0) κ u8 .typed s (v ∷ []) p .0)) $ pass1 ! (init ! 6 refl (tt, record { fits = ok })) $ pass1 ! (init ! 4 refl (tt, record { fits = fits })) $ pass1 ! (init ! 2 refl (shr-slice-lawful 𝓤 H A W (named 1) κ′ u8 .typed t (w ∷ []) p′ .0)) $ pass0 ! $
+          alloc1 ! (λ l₀. alloc1 ! (λ l₁. alloc1 ! (λ l₂. alloc1 ! (λ l₃. alloc1 ! (λ l₄. alloc1 ! (λ l₅. alloc0 ! $ params1 ! $
+          pass1 ! (init ! 8 refl (shr-slice-lawful 𝓤 H A W (named 0) κ u8 .typed s (v ∷ []) p .0)) $ pass1 ! (init ! 6 refl (tt, record { fits = ok })) $
+          pass1 ! (init ! 4 refl (tt, record { fits = fits })) $ pass1 ! (init ! 2 refl (shr-slice-lawful 𝓤 H A W (named 1) κ′ u8 .typed t (w ∷ []) p′ .0)) $ pass0 ! $
           move ! (12 ∷ []) $ use1 W (raw (New .pre to-new) ⊛ ((‵ Text ⊛ ‵ (flft κ′ q′)) ⊛ (‵ Own ⊛ ‵ Text))) goes-new $ split ! $
           calls-at ! fm New known-new to-new (and-then ! (load ! (from ! (stop !)) (look ! 10 refl)) (and-then ! (load ! (from ! (stop !)) (look ! 8 refl)) (no-more !))) (λ u.
           use1 W (later (some (λ (r : Reader). ((‵ (flft κ q) ⊛ ‵ ftrue) ⊛ ‵ (B κs .own r (u ∷ []))) ⊛ raw (ensured 𝓤 H A new.ended (new.clauses 𝓤 H A mem run) (κ, tt) (s, (n, tt)) tt r)))) (id⊢ 𝓤 _) $ await ! tt $ pick ! (λ r.
@@ -160,12 +173,14 @@ module _ {M : Type 1} (𝓤 : URA M) (H : Heap 𝓤) (A : Atoms 𝓤) (mem : Mem
           use3 W (raw (Asked .pre (to-asked r u)) ⊛ (‵ Own ⊛ ‵ Text)) (goes-asked r u) $ split ! $
           calls-at ! fm Asked known (to-asked r u) (and-then ! (load ! (from ! (stop !)) (look ! 2 refl)) (and-then ! (load ! (from ! (stop !)) (look ! 6 refl)) (and-then ! (load ! (from ! (stop !)) (look ! 4 refl)) (no-more !)))) (λ u′.
           use1 W (later (some (λ (x : Bool). ((‵ (flft κ q) ⊛ ‵ (flft κ′ q′) ⊛ ‵ ftrue) ⊛ ‵ (bool .own x (u′ ∷ []))) ⊛ raw (ensured 𝓤 H A begins.ended (begins.clauses 𝓤 H A mem run) κs (r, (m, (t, tt))) tt x)))) (id⊢ 𝓤 _) $ await ! tt $ pick ! (λ x.
-          split ! $ move ! (1 ∷ []) $ use1 W (raw (fact 𝓤 (x ≡ found (now (r .src)) (r .at) m (now t)))) (asked-said r x) $ heard ! (x ≡ found (now (r .src)) (r .at) m (now t)) (λ e′. split ! $ move ! (1 ∷ []) $
+          split ! $ move ! (1 ∷ []) $ use1 W (raw (fact 𝓤 (x ≡ found (now (r .src)) (r .at) m (now t)))) (asked-said r x) $
+          heard ! (x ≡ found (now (r .src)) (r .at) m (now t)) (λ e′. split ! $ move ! (1 ∷ []) $
           -- [the result; the tokens; what s and t own; _5; …; _4; …; _3; …; _2; …; _1; …; room for _0; …]
           peeks ! bool (Is bool) (shows 𝓤 H A bool) x (u′ ∷ []) (λ is′.
           land ! (from ! (stop !)) (init ! 13 refl (bool-lawful 𝓤 H A W .typed x _ is′ .0)) $
           returns ! (look ! 13 refl) $ forget ! 3 refl $ forget ! 5 refl $ forget ! 7 refl $ forget ! 9 refl $ forget ! 11 refl $ forget ! 13 refl $
-          move ! (13 ∷ 14 ∷ []) $ free1 ! $ move ! (11 ∷ 12 ∷ []) $ free1 ! $ move ! (9 ∷ 10 ∷ []) $ free1 ! $ move ! (7 ∷ 8 ∷ []) $ free1 ! $ move ! (5 ∷ 6 ∷ []) $ free1 ! $ move ! (3 ∷ 4 ∷ []) $ free1 ! $ free0 ! $
+          move ! (13 ∷ 14 ∷ []) $ free1 ! $ move ! (11 ∷ 12 ∷ []) $ free1 ! $ move ! (9 ∷ 10 ∷ []) $ free1 ! $ move ! (7 ∷ 8 ∷ []) $ free1 ! $ move ! (5 ∷ 6 ∷ []) $ free1 ! $
+          move ! (3 ∷ 4 ∷ []) $ free1 ! $ free0 ! $
           by ! (exits x u′ (e′ ∙ (ap (λ (y : RefT (List ℕ)). found (now y) (r .at) m (now t)) (e .0) ∙ ap (λ (k : ℕ). found (now s) k m (now t)) (e .1))))))))))))))))))
 
   begins-at-meets : (W : Given 𝓤 H A) (𝓣 : Tables 𝓤 H) → Triple 𝓤 (𝓣 .C #reader·new) New → Triple 𝓤 (𝓣 .C #reader·begins) Asked

@@ -101,7 +101,8 @@ module _ {M : Type 1} (𝓤 : URA M) (H : Heap 𝓤) (A : Atoms 𝓤) (mem : Mem
     goes-new =
         qed W ((‵ (flft κ q) ⊛ ‵ ftrue) ∷ ‵ (owns (ShrSlice (named 0) κ u8 ∷ usize ∷ []) (s, (n, tt)) at) ∷ []) ∵
         move ! (1 ∷ []) $ fsplit ! $ use1 W (‵ Own ⊛ ‵ Own) (shr-slice-copy 𝓤 H A W (named 0) κ u8 .twice s (v ∷ [])) $ split ! $ move ! (0 ∷ 2 ∷ []) $ fjoin ! $
-        move ! (2 ∷ 0 ∷ []) $ use2 W (raw (New .pre to-new)) (qed W ((‵ (flft κ q) ⊛ ‵ ftrue) ∷ ‵ (owns (ShrSlice (named 0) κ u8 ∷ usize ∷ []) (s, (n, tt)) (v ∷ [], (vint w64 n ∷ [], tt))) ∷ []) ∵ join ! $ frame ! $ done !) $ frame ! $ done !
+        move ! (2 ∷ 0 ∷ []) $
+        use2 W (raw (New .pre to-new)) (qed W ((‵ (flft κ q) ⊛ ‵ ftrue) ∷ ‵ (owns (ShrSlice (named 0) κ u8 ∷ usize ∷ []) (s, (n, tt)) (v ∷ [], (vint w64 n ∷ [], tt))) ∷ []) ∵ join ! $ frame ! $ done !) $ frame ! $ done !
 
     new-said : (r : Reader) → ent 𝓤 (ensured 𝓤 H A new.ended (new.clauses 𝓤 H A mem run) (κ, tt) (s, (n, tt)) tt r) (fact 𝓤 ((r .src ≡ s) × (r .at ≡ n)))
     new-said r = exE 𝓤 _ (λ ws. snd∗ 𝓤 (sem 𝓤 H A (lasts new.ended (κ, tt) (s, (n, tt)) ws)) (fact 𝓤 ((r .src ≡ s) × (r .at ≡ n))))
@@ -121,14 +122,17 @@ module _ {M : Type 1} (𝓤 : URA M) (H : Heap 𝓤) (A : Atoms 𝓤) (mem : Mem
     exits : (x : ℕ) (u : Val) → x ≡ answer → ent 𝓤 (⋆ 𝓤 H A (‵ (usize .own x (u ∷ [])) ∷ (‵ (flft κ q) ⊛ ‵ ftrue) ∷ ‵ Own ∷ [])) (Post u)
     exits x u e =
         qed W (‵ (usize .own x (u ∷ [])) ∷ (‵ (flft κ q) ⊛ ‵ ftrue) ∷ ‵ Own ∷ []) ∵
-        suffices ! _ (ends-at 𝓤 H A line-at.ended stayed (line-at.clauses 𝓤 H A mem run) W (((κ, tt), (q, tt), tt, (s, (n, tt)), at), tt) u x (tt, (tt, tt)) (tt, (tt, tt))) $ says ! e $
+        suffices ! _ (ends-at 𝓤 H A line-at.ended stayed (line-at.clauses 𝓤 H A mem run) W (((κ, tt), (q, tt), tt, (s, (n, tt)), at), tt) u x (tt, (tt, tt)) (tt, (tt, tt))) $
+        says ! e $
         move ! (1 ∷ []) $ frame ! $ nothing ! $ owned ! usize (Is usize) (uint-makes 𝓤 H A W w64) n _ (refl, ok) $ fjoin ! $ move ! (2 ∷ 0 ∷ []) $ fjoin ! $ frame ! $ done !
 
     module _ (C : Calls 𝓤 H) (Λ : Loops 𝓤 H) (fm : FmC 𝓤 H (W .laws) C) (known-new : Triple 𝓤 (C #reader·new) New) (known : Triple 𝓤 (C #reader·line) Asked) where
-      walk : Is (ShrSlice (named 0) κ u8) s (v ∷ []) → ent 𝓤 (onEntry 𝓤 H A line-at.signature (κ, tt) (q, tt) (s, (n, tt)) at) (WpFn 𝓤 H C Λ code.function (v ∷ vint w64 n ∷ []) Post)
+      walk : Is (ShrSlice (named 0) κ u8) s (v ∷ [])
+          → ent 𝓤 (onEntry 𝓤 H A line-at.signature (κ, tt) (q, tt) (s, (n, tt)) at) (WpFn 𝓤 H C Λ code.function (v ∷ vint w64 n ∷ []) Post)
       walk p =
           qed W (raw (onEntry 𝓤 H A line-at.signature (κ, tt) (q, tt) (s, (n, tt)) at) ∷ []) ∵ enter ! C Λ code.function (v ∷ vint w64 n ∷ []) _ $
-          alloc1 ! (λ l₀. alloc1 ! (λ l₁. alloc1 ! (λ l₂. alloc1 ! (λ l₃. alloc0 ! $ params1 ! $ pass1 ! (init ! 4 refl (shr-slice-lawful 𝓤 H A W (named 0) κ u8 .typed s (v ∷ []) p .0)) $ pass1 ! (init ! 2 refl (tt, record { fits = ok })) $ pass0 ! $
+          alloc1 ! (λ l₀. alloc1 ! (λ l₁. alloc1 ! (λ l₂. alloc1 ! (λ l₃. alloc0 ! $ params1 ! $
+          pass1 ! (init ! 4 refl (shr-slice-lawful 𝓤 H A W (named 0) κ u8 .typed s (v ∷ []) p .0)) $ pass1 ! (init ! 2 refl (tt, record { fits = ok })) $ pass0 ! $
           move ! (8 ∷ []) $ use1 W (raw (New .pre to-new) ⊛ ‵ Own) goes-new $ split ! $
           calls-at ! fm New known-new to-new (and-then ! (load ! (from ! (stop !)) (look ! 6 refl)) (and-then ! (load ! (from ! (stop !)) (look ! 4 refl)) (no-more !))) (λ u.
           use1 W (later (some (λ (r : Reader). ((‵ (flft κ q) ⊛ ‵ ftrue) ⊛ ‵ (B (κ, tt) .own r (u ∷ []))) ⊛ raw (ensured 𝓤 H A new.ended (new.clauses 𝓤 H A mem run) (κ, tt) (s, (n, tt)) tt r)))) (id⊢ 𝓤 _) $ await ! tt $ pick ! (λ r.
@@ -139,7 +143,8 @@ module _ {M : Type 1} (𝓤 : URA M) (H : Heap 𝓤) (A : Atoms 𝓤) (mem : Mem
           use2 W (raw (Asked .pre (to-asked r u))) (goes-asked r u) $
           calls-at ! fm Asked known (to-asked r u) (and-then ! (load ! (from ! (stop !)) (look ! 2 refl)) (no-more !)) (λ u′.
           use1 W (later (some (λ (x : ℕ). ((‵ (flft κ q) ⊛ ‵ ftrue) ⊛ ‵ (usize .own x (u′ ∷ []))) ⊛ raw (ensured 𝓤 H A line.ended (line.clauses 𝓤 H A mem run) (κ, tt) (r, tt) tt x)))) (id⊢ 𝓤 _) $ await ! tt $ pick ! (λ x.
-          split ! $ move ! (1 ∷ []) $ use1 W (raw (fact 𝓤 (x ≡ found (now (r .src)) (r .at)))) (asked-said r x) $ heard ! (x ≡ found (now (r .src)) (r .at)) (λ e′. split ! $ move ! (1 ∷ []) $
+          split ! $ move ! (1 ∷ []) $ use1 W (raw (fact 𝓤 (x ≡ found (now (r .src)) (r .at)))) (asked-said r x) $ heard ! (x ≡ found (now (r .src)) (r .at)) (λ e′. split ! $
+          move ! (1 ∷ []) $
           -- [the result; the token; what s owns; _3; …; _2; …; _1; …; room for _0; …]
           peeks ! usize (Is usize) (shows 𝓤 H A usize) x (u′ ∷ []) (λ is′.
           land ! (from ! (stop !)) (init ! 9 refl (uint-lawful 𝓤 H A W w64 .typed x _ is′ .0)) $
