@@ -1,7 +1,7 @@
 -- The values of a reply, or its refusal, from what was heard: one law for each way out of the code.
 use mathlib.Core.Path.{_≡_, refl, sym, ap, _∙_}
 use mathlib.Core.Bool.{Bool, true, false, cond}
-use mathlib.Core.List.{List, [], _∷_, _++_}
+use mathlib.Core.List.{List, [], _++_}
 use Prim.Native.Nat.{ℕ, _+_, _-_, _≤_, _<_}
 use native.Mathlib.Omega.{arith}
 use native.Mathlib.Numerals.{add-one}
@@ -10,7 +10,7 @@ use lib.Dec.{eqb, ltb}
 use lib.ListN.{length, drop}
 use lib.Seq.{drop-at, drop-append-add, drop-drop}
 use Rattle.lists.specs.Rows.{tab, num}
-use Rattle.lists.proofs.RowLaws.{length-tab, getD-tab}
+use Rattle.lists.proofs.RowLaws.{length-tab, getD-tab, tab-same}
 use Rattle.lists.proofs.PlaceLaws.{first-most, first-same}
 use Rattle.job.specs.declared.Literal.{Literal}
 use Rattle.reply.specs.declared.Place.{Place}
@@ -19,7 +19,7 @@ use Rattle.reply.specs.Said.{says, literals, marks}
 use Rattle.reply.specs.Reply.{Heard, turned, whole, heardIn, refusal, values, truth, missing, completed, valuesRead}
 use Rattle.reply.specs.Check.{accepted, refused, blank}
 use Rattle.reply.specs.Answers.{settled, heardOf, cleaned}
-use Rattle.reply.proofs.MarkLaws.{mapHeard, tab-same, marked, marked-at, heard-marked}
+use Rattle.reply.proofs.MarkLaws.{mapHeard, marked, marked-at, heard-marked}
 
 -- in a buffer of zeros the marks hear what the literals hear
 pub hears : (N : ℕ) (s work w : List ℕ) → w ≡ blank N work → heardIn marks N w s ≡ mapHeard (marked N (drop N work)) (heardIn literals N [] s)
