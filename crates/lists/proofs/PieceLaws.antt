@@ -9,7 +9,7 @@ use native.Mathlib.Numerals.{add-one}
 use borrow.Author.Tests.{eq-eqb, ne-eqb, eqb-true}
 use lib.Dec.{eqb}
 use lib.ListN.{length, getD, take, drop, drop-of-length-le, length-take}
-use lib.Seq.{slice, slice-cons, slice-empty, length-slice, drop-cons, drop-drop, take-take, take-nil, take-length}
+use lib.Seq.{slice, slice-cons, length-slice, drop-cons, drop-drop, take-take, take-nil, take-length}
 use Rattle.lists.specs.Pieces.{Pieces, last, piece, onto, cut, upTo, starts, is}
 
 -- ---- parts of a text

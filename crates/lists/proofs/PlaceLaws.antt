@@ -1,17 +1,17 @@
 -- Laws of places: where a row of tests first fails, and one law for each way out of a scan.
-use mathlib.Core.Path.{_≡_, refl, sym, ap, _∙_, subst}
-use mathlib.Core.Bool.{Bool, true, false, not, cond, _&&_, false≢true}
+use mathlib.Core.Path.{_≡_, refl, sym, ap, _∙_}
+use mathlib.Core.Bool.{Bool, true, false, not, _&&_}
 use mathlib.Core.Logic.{_⊎_, inl, inr}
 use mathlib.Core.List.{List, [], _∷_, _++_}
 use Prim.Native.Nat.{ℕ, zero, suc, _+_, _≤_, _<_}
 use native.Mathlib.Omega.{arith}
 use native.Mathlib.Decide.{ℕ-discrete}
 use native.Mathlib.Numerals.{add-one}
-use lib.ListN.{length, length-append}
+use lib.ListN.{length}
 use Rattle.lists.specs.Rows.{each, tab}
 use Rattle.lists.specs.Tests.{all}
 use Rattle.lists.specs.Places.{passing, first}
-use Rattle.lists.proofs.Logic.{split, clash, and-left, and-right}
+use Rattle.lists.proofs.Logic.{split, and-left, and-right}
 use Rattle.lists.proofs.RowLaws.{length-tab}
 
 pub passing-most : (bs : List Bool) → passing bs ≤ length bs

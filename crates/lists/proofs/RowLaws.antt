@@ -1,5 +1,5 @@
 -- Laws of rows: their length, and what stands at a place.
-use mathlib.Core.Path.{_≡_, refl, _∙_}
+use mathlib.Core.Path.{_≡_, refl, ap, _∙_}
 use mathlib.Core.Bool.{cond}
 use mathlib.Core.List.{List, [], _∷_, _++_, map, map-append}
 use Prim.Native.Nat.{ℕ, zero, suc, _+_, _*_, _≤_, _<_}
@@ -8,8 +8,8 @@ use native.Mathlib.Decide.{ℕ-discrete}
 use native.Mathlib.Nat.{mul-le-mul-right}
 use borrow.Author.Tests.{eq-eqb, ne-eqb}
 use lib.Dec.{eqb}
-use lib.ListN.{length, getD, length-append, List·getD-append}
-use lib.Seq.{getD-at, getD-append-add}
+use lib.ListN.{length, getD, set, length-append, List·getD-append}
+use lib.Seq.{getD-at, getD-append-add, set-at, set-append-left}
 use Rattle.lists.specs.Rows.{each, tab, sum}
 
 -- ---- sums
@@ -126,3 +126,21 @@ pub map-each {ℓ} : {S T : Type ℓ} (f : S → T) (n : ℕ) (g : ℕ → List 
 unfolding each
 map-each f zero g = refl
 map-each f (suc n) g = map-append f (each n g) (g n) ∙ rw (map-each f n g)
+
+-- one place of a row is set
+pub set-tab : (n : ℕ) (f : ℕ → ℕ) (x v : ℕ) → x < n → set (tab n f) x v ≡ tab n (λ y. cond (eqb x y) v (f y))
+unfolding each
+set-tab zero f x v l = absurd (omega arith)
+set-tab (suc n) f x v l = go (ℕ-discrete x n) (set-tab n f x v)
+  where
+    go : Dec (x ≡ n) → (x < n → set (tab n f) x v ≡ tab n (λ y. cond (eqb x y) v (f y)))
+        → set (tab n f ++ (f n ∷ [])) x v ≡ tab n (λ y. cond (eqb x y) v (f y)) ++ (cond (eqb x n) v (f n) ∷ [])
+    go (yes e) q =
+        let same : tab n f ≡ tab n (λ y. cond (eqb x y) v (f y)) =
+        tab-same n f (λ y. cond (eqb x y) v (f y)) (λ y k. rw (ne-eqb x y (λ z. omega arith))) in
+        ap (λ (i : ℕ). set (tab n f ++ (f n ∷ [])) i v) e
+        ∙ set-at (tab n f) (f n) [] v n (length-tab n f)
+        ∙ rw (eq-eqb x n e) (ap (λ (l : List ℕ). l ++ (v ∷ [])) same)
+    go (no e) q =
+        set-append-left (tab n f) (f n ∷ []) x v (rw (length-tab n f) (omega arith))
+        ∙ rw (ne-eqb x n e) (ap (λ (l : List ℕ). l ++ (f n ∷ [])) (q (omega arith)))

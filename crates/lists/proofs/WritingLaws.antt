@@ -3,12 +3,12 @@ use mathlib.Core.Path.{_≡_, refl, sym, ap, _∙_}
 use mathlib.Core.List.{List, [], _∷_, _++_, append-assoc, append-nil}
 use Prim.Native.Nat.{ℕ, zero, suc, _+_, _≤_, _<_}
 use native.Mathlib.Omega.{arith}
-use native.Mathlib.Nat.{add-assoc, add-zero, zero-add}
+use native.Mathlib.Nat.{add-assoc, add-zero}
 use native.Mathlib.Numerals.{add-one}
 use native.Mathlib.Decide.{ℕ-discrete}
 use lib.ListN.{length, getD, take, drop, set, length-set, length-append, length-take, length-drop, take-append-drop}
-use lib.Seq.{length-take-le, take-at, drop-cons, drop-drop, drop-append-add, set-at, set-split, append-snoc, take-set-le, take-set-lt, take-suc-set, drop-set-lt, getD-set-same, set-append-left}
-use Rattle.lists.specs.Rows.{each, tab}
+use lib.Seq.{length-take-le, take-at, drop-cons, drop-drop, drop-append-add, set-at, set-split, append-snoc, take-set-le, take-set-lt, take-suc-set, drop-set-lt, getD-set-same, set-append-left, getD-at}
+use Rattle.lists.specs.Rows.{each, tab, num}
 use Rattle.lists.specs.Writing.{write}
 use Rattle.lists.proofs.RowLaws.{length-tab}
 
@@ -126,3 +126,25 @@ module _ {T : Type 0} (l now : List T) (at to i n : ℕ) (g : ℕ → List T) (p
 -- a part behind a part, by the place behind the first
 pub write-behind : {T : Type 0} (l : List T) (at to : ℕ) (p q : List T) → to ≡ at + length p → to + length q ≤ length l → write (write l at p) to q ≡ write l at (p ++ q)
 write-behind l at to p q e h = ap (λ k. write (write l at p) k q) e ∙ write-more l at p q (omega arith)
+
+-- ---- a row over the first places of a list, and the rest kept
+
+pub front-none : (f : ℕ → ℕ) (l : List ℕ) → l ≡ tab 0 f ++ drop 0 l
+unfolding each
+front-none f l = refl
+
+module _ (f : ℕ → ℕ) (l : List ℕ) (i : ℕ) (h : i < length l) where
+  -- one place more of the row
+  front-more : (v : ℕ) → v ≡ f i → tab i f ++ v ∷ drop (suc i) l ≡ tab (i + 1) f ++ drop (i + 1) l
+  unfolding each
+  front-more v e = rw (add-one i, e) (sym (append-snoc (tab i f) (f i) (drop (suc i) l)))
+
+  pub front-put : (v : ℕ) → v ≡ f i → set (tab i f ++ drop i l) i v ≡ tab (i + 1) f ++ drop (i + 1) l
+  front-put v e = rw (drop-cons l i 0 h) (set-at (tab i f) (getD l i 0) (drop (suc i) l) v i (length-tab i f) ∙ front-more v e)
+
+  pub front-keep : num l i ≡ f i → tab i f ++ drop i l ≡ tab (i + 1) f ++ drop (i + 1) l
+  front-keep e = ap (λ (r : List ℕ). tab i f ++ r) (drop-cons l i 0 h) ∙ front-more (num l i) e
+
+  -- behind the row the list is as it was
+  pub front-next : num (tab i f ++ drop i l) i ≡ num l i
+  front-next = rw (drop-cons l i 0 h) (getD-at (tab i f) (getD l i 0) (drop (suc i) l) 0 i (length-tab i f))

@@ -1,17 +1,17 @@
 -- The marks in the working buffer say what the literals of the definition say.
-use mathlib.Core.Path.{_≡_, refl, sym, ap, _∙_}
+use mathlib.Core.Path.{_≡_, refl, ap, _∙_}
 use mathlib.Core.Bool.{Bool, true, false, not, cond}
 use mathlib.Core.List.{List, [], _∷_, _++_}
 use Prim.Native.Nat.{ℕ, zero, suc, _<_}
 use native.Mathlib.Omega.{arith}
-use native.Mathlib.Decide.{ℕ-discrete, decLt}
-use borrow.Author.Tests.{eq-eqb, ne-eqb, lt-ltb, le-ltb}
+use native.Mathlib.Decide.{decLt}
+use borrow.Author.Tests.{lt-ltb, le-ltb}
 use lib.Dec.{eqb}
-use lib.ListN.{length, set, drop, List·getD-append}
-use lib.Seq.{set-at, set-append-left}
-use Rattle.lists.specs.Rows.{each, tab, num}
+use lib.ListN.{set, drop, List·getD-append}
+use lib.Seq.{set-append-left}
+use Rattle.lists.specs.Rows.{tab, num}
 use Rattle.lists.specs.Pieces.{Pieces, last, piece, cut, starts}
-use Rattle.lists.proofs.RowLaws.{length-tab, getD-tab, tab-same}
+use Rattle.lists.proofs.RowLaws.{length-tab, getD-tab, set-tab}
 use Rattle.job.specs.declared.Literal.{Literal}
 use Rattle.job.specs.Literals.{valued}
 use Rattle.tokens.specs.declared.Token.{Token}
@@ -119,28 +119,6 @@ module _ {S T : Type 0} (A : Store S) (B : Store T) (h : S → T) (N : ℕ)
           ≡ mapHeard h (started m o (λ k ps. spoken (valueLinesIn A N k m ps)))
       go (stopped c k) = refl
       go (begun k ps) = rw (lines-same ps k m) (speak (valueLinesIn A N k m ps))
-
--- ---- rows
-
-set-tab : (n : ℕ) (f : ℕ → ℕ) (x v : ℕ) → x < n → set (tab n f) x v ≡ tab n (λ y. cond (eqb x y) v (f y))
-unfolding each
-set-tab zero f x v l = absurd (omega arith)
-set-tab (suc n) f x v l = go (ℕ-discrete x n) (set-tab n f x v)
-  where
-    g : ℕ → ℕ
-    g y = cond (eqb x y) v (f y)
-
-    go : Dec (x ≡ n) → (x < n → set (tab n f) x v ≡ tab n (λ y. cond (eqb x y) v (f y)))
-        → set (tab n f ++ (f n ∷ [])) x v ≡ tab n (λ y. cond (eqb x y) v (f y)) ++ (cond (eqb x n) v (f n) ∷ [])
-    go (yes e) q =
-        let same : tab n f ≡ tab n (λ y. cond (eqb x y) v (f y)) =
-        tab-same n f (λ y. cond (eqb x y) v (f y)) (λ y k. rw (ne-eqb x y (λ z. omega arith))) in
-        ap (λ (i : ℕ). set (tab n f ++ (f n ∷ [])) i v) e
-        ∙ set-at (tab n f) (f n) [] v n (length-tab n f)
-        ∙ rw (eq-eqb x n e) (ap (λ (l : List ℕ). l ++ (v ∷ [])) same)
-    go (no e) q =
-        set-append-left (tab n f) (f n ∷ []) x v (rw (length-tab n f) (omega arith))
-        ∙ rw (ne-eqb x n e) (ap (λ (l : List ℕ). l ++ (f n ∷ [])) (q (omega arith)))
 
 -- ---- the buffer as the picture of the literals
 

@@ -1,4 +1,4 @@
-// Checking a reply: its lines and numbers are read over a slice and a number, its values are marked in the working buffer.
+// Checking a reply: its lines and numbers are read by a reader, its values are marked in the working buffer.
 ghost use mathlib.Core.Path.{_≡_};
 ghost use mathlib.Core.Bool.{true};
 ghost use Prim.Native.Nat.{_+_, _≤_};
@@ -51,7 +51,7 @@ fn line_end(s: &[u8], at: usize) -> usize
     requires { ⌜ at ≤ length (now s) ⌝ }
     ensures { λ r. ⌜ (r ≡ at + length (upTo 10 (slice at (length (now (s .entry))) (now (s .entry))))) × (at ≤ r) × (r ≤ length (now (s .entry))) ⌝ }
 {
-    tokens::find(s, 10, at, s.len())
+    reader::line_at(s, at)
 }
 
 // Where the word that starts at at ends: at a space, or with the line, which ends at to.
@@ -59,13 +59,13 @@ fn word_end(s: &[u8], at: usize, to: usize) -> usize
     requires { ⌜ (at ≤ to) × (to ≤ length (now s)) ⌝ }
     ensures { λ r. ⌜ (r ≡ at + length (upTo 32 (slice at to (now (s .entry))))) × (at ≤ r) × (r ≤ to) ⌝ }
 {
-    tokens::find(s, 32, at, to)
+    reader::word_at(s, at, to)
 }
 
 fn is_comment(s: &[u8], from: usize, to: usize) -> bool
     ensures { λ r. ⌜ r ≡ comment (slice from to (now (s .entry))) ⌝ }
 {
-    tokens::begins(s, from, to, b"c")
+    reader::begins_at(s, from, to, b"c")
 }
 
 // The line is t.
@@ -76,7 +76,7 @@ fn is_line(s: &[u8], from: usize, to: usize, t: &[u8]) -> bool
     if to - from != t.len() {
         return false;
     }
-    tokens::begins(s, from, to, t)
+    reader::begins_at(s, from, to, t)
 }
 
 // Up to the line behind `s SATISFIABLE`.
@@ -140,7 +140,7 @@ fn read_numbers(s: &[u8], from: usize, to: usize, work: &mut [u8], n: usize) -> 
     let mut at = from;
     loop {
         let e = word_end(s, at, to);
-        let t = tokens::token_at(s, at, e);
+        let t = reader::token_at(s, at, e);
         let r = mark(t, &mut *work, n);
         if e == to {
             return r;
@@ -163,7 +163,7 @@ fn read_value_line(s: &[u8], from: usize, to: usize, work: &mut [u8], n: usize) 
     requires { ⌜ (from ≤ to) × (to ≤ length (now s)) × (n ≤ length (now work)) ⌝ }
     ensures { λ r. ⌜ partOf r (now (work .exit)) ≡ valueLineIn marks n (now (work .entry)) (slice from to (now (s .entry))) ⌝ }
 {
-    if tokens::begins(s, from, to, b"v ") {
+    if reader::begins_at(s, from, to, b"v ") {
         read_numbers(s, from + 2, to, work, n)
     } else {
         Numbers::Fault(61)

@@ -5,7 +5,7 @@ use Prim.Native.Nat.{ℕ, _-_, _≤_}
 use native.Mathlib.Omega.{arith}
 use borrow.Author.Needs.{needs}
 use lib.ListN.{length-set, length, set}
-use Rattle.reply.proofs.BufferLaws.{row-none, row-put}
+use Rattle.lists.proofs.WritingLaws.{front-none, front-put}
 use Rattle.reply.specs.Check.{blank}
 use Rattle.reply.proofs.clear.Statement.{statement}
 use Rattle.reply.proofs.clear.Tie as tie
@@ -17,7 +17,7 @@ abbrev μ-loop : tie.MeasureT-loop
 μ-loop work₀ n x₀ work x = n - x
 
 loop-holds : tie.Need-loop-holds Inv-loop μ-loop
-loop-holds c = (omega arith, row-none (λ x. 0) (c .args .work .now), refl)
+loop-holds c = (omega arith, front-none (λ x. 0) (c .args .work .now), refl)
 
 slice-write-work : tie.Need-slice-write-work Inv-loop μ-loop
 slice-write-work c = omega arith
@@ -32,7 +32,7 @@ loop-again : tie.Need-loop-again Inv-loop μ-loop
 loop-again c =
     let a = c .before .before .args in
     let l = c .before .loop in
-    let put = row-put (λ x. 0) (a .work .now) (l .x) (omega arith) 0 refl in
+    let put = front-put (λ x. 0) (a .work .now) (l .x) (omega arith) 0 refl in
     (omega arith, ap (λ (w : List ℕ). set w (l .x) 0) (l .inv .1) ∙ put, length-set (l .work) (l .x) 0 ∙ l .inv .2)
 
 same-length : tie.Need-same-length Inv-loop μ-loop

@@ -15,14 +15,14 @@ returns c =
     let n = length-slice (a .from) (a .to) (a .s .now) (c .before .before .before .pre .1) in
     sym (is-other-length (a .t .now) (slice (a .from) (a .to) (a .s .now)) (λ e. c .if1 .taken (sym n ∙ e)))
 
-begins-requires : tie.Need-begins-requires
-begins-requires c κs = search needs
+begins-at-requires : tie.Need-begins-at-requires
+begins-at-requires c κs = search needs
 
 returns-2 : tie.Need-returns-2
 returns-2 c =
     let a = c .before .before .before .before .args in
     let n = length-slice (a .from) (a .to) (a .s .now) (c .before .before .before .before .pre .1) in
-    c .begins .ensures ∙ sym (is-as-starts (a .t .now) (slice (a .from) (a .to) (a .s .now)) (n ∙ c .before .if1 .left))
+    c .begins-at .ensures ∙ sym (is-as-starts (a .t .now) (slice (a .from) (a .to) (a .s .now)) (n ∙ c .before .if1 .left))
 
 pub is-line-spec : {M : Type 1} → statement M
-is-line-spec = tie.close (tie.spec sub-if1 returns begins-requires returns-2)
+is-line-spec = tie.close (tie.spec sub-if1 returns begins-at-requires returns-2)

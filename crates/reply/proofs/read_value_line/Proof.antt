@@ -5,11 +5,11 @@ use Rattle.reply.proofs.LineLaws.{v-room, v-line, no-v}
 use Rattle.reply.proofs.read_value_line.Statement.{statement}
 use Rattle.reply.proofs.read_value_line.Tie as tie
 
-slice-aggregate-begins : tie.Need-slice-aggregate-begins
-slice-aggregate-begins c = search needs
+slice-aggregate-begins-at : tie.Need-slice-aggregate-begins-at
+slice-aggregate-begins-at c = search needs
 
-begins-requires : tie.Need-begins-requires
-begins-requires c κs = search needs
+begins-at-requires : tie.Need-begins-at-requires
+begins-at-requires c κs = search needs
 
 add-read-numbers : tie.Need-add-read-numbers
 add-read-numbers c = search needs
@@ -18,7 +18,7 @@ read-numbers-requires : tie.Need-read-numbers-requires
 read-numbers-requires c κs =
     let a = c .before .before .before .before .before .before .args in
     let p = c .before .before .before .before .before .before .pre in
-    let is = sym (c .before .if1 .taken) ∙ c .before .before .begins .ensures in
+    let is = sym (c .before .if1 .taken) ∙ c .before .before .begins-at .ensures in
     (v-room (a .n) (a .work .now) (a .s .now) (a .from) (a .to) (p .1) is, p .1, p .2)
 
 same-length : tie.Need-same-length
@@ -27,20 +27,20 @@ same-length c = search needs
 returns : tie.Need-returns
 returns c =
     let a = c .before .before .before .before .before .before .before .before .before .args in
-    let is = sym (c .before .before .before .before .if1 .taken) ∙ c .before .before .before .before .before .begins .ensures in
+    let is = sym (c .before .before .before .before .if1 .taken) ∙ c .before .before .before .before .before .begins-at .ensures in
     c .before .before .read-numbers .ensures ∙ v-line (a .n) (a .work .now) (a .s .now) (a .from) (a .to) is
 
 returns-2 : tie.Need-returns-2
 returns-2 c =
     let a = c .before .before .before .before .before .args in
-    no-v (a .n) (a .work .now) (a .s .now) (a .from) (a .to) (sym (c .if1 .left) ∙ c .before .begins .ensures)
+    no-v (a .n) (a .work .now) (a .s .now) (a .from) (a .to) (sym (c .if1 .left) ∙ c .before .begins-at .ensures)
 
 pub read-value-line-spec : {M : Type 1} → statement M
 read-value-line-spec =
     tie.close
     (tie.spec
-    slice-aggregate-begins
-    begins-requires
+    slice-aggregate-begins-at
+    begins-at-requires
     add-read-numbers
     read-numbers-requires
     same-length

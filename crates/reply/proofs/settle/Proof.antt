@@ -7,7 +7,8 @@ use borrow.Author.Needs.{needs}
 use lib.ListN.{length-set, length}
 use Rattle.lists.proofs.PlaceLaws.{first-zero}
 use Rattle.lists.specs.Rows.{num}
-use Rattle.reply.proofs.BufferLaws.{now-false, now-true, none-missing, one-missing, row-none}
+use Rattle.lists.proofs.WritingLaws.{front-none}
+use Rattle.reply.proofs.BufferLaws.{now-false, now-true, none-missing, one-missing}
 use Rattle.reply.specs.Answers.{cleaned}
 use Rattle.reply.specs.Reply.{missing}
 use Rattle.reply.proofs.settle.Statement.{statement}
@@ -20,7 +21,7 @@ abbrev μ-loop : tie.MeasureT-loop
 μ-loop work₀ n i₀ work i = n - i
 
 loop-holds : tie.Need-loop-holds Inv-loop μ-loop
-loop-holds c = (omega arith, row-none _ (c .args .work .now), first-zero _, refl)
+loop-holds c = (omega arith, front-none _ (c .args .work .now), first-zero _, refl)
 
 slice-read-if1 : tie.Need-slice-read-if1 Inv-loop μ-loop
 slice-read-if1 c = omega arith
