@@ -272,17 +272,15 @@ struct answer check_reply(struct table t, const char *reply, size_t length, uint
     return (struct answer){ true, 0, 0 };
 }
 
-/* What only reading the bytes takes: one look at each. */
+/* What reading alone takes: one look at each byte, and the library's own search for a byte that is not there. */
 size_t read_bytes(const char *reply, size_t length) {
     size_t lines = 0;
-    for (size_t i = 0; i < length; i++) {
+    for (size_t i = 0; i < length; i++)
         if (reply[i] == '\n') lines++;
-        __asm__ volatile("" : "+r"(lines));      /* byte by byte, as reading does, not many at a time */
-    }
     return lines;
 }
 
 size_t find_byte(const char *reply, size_t length) {
-    const char *at = memchr(reply, '\0', length);
+    const char *at = memchr(reply, 255, length);
     return at ? (size_t)(at - reply) : length;
 }
