@@ -1,41 +1,18 @@
 #!/usr/bin/env python3
 """Holds the proved checker to expected.txt, and to the second checker on random replies.
 
-Use: `rt staticlib reply_ffi`, then `tests/checker/compare.py [HOW_MANY [SEED]]` (10,000 replies, seed 1)."""
+Use: `tests/checker/compare.py [HOW_MANY [SEED]]` (10,000 replies, seed 1)."""
 import collections
-import ctypes
 import os
 import random
-import subprocess
 import sys
-import tempfile
 
+HERE = os.path.dirname(os.path.abspath(__file__))
+sys.path.insert(0, os.path.dirname(HERE))
+import calls
 import checker
-import jobs
 import replies
-
-ROOT = os.path.join(jobs.HERE, "../..")
-
-
-class Answer(ctypes.Structure):
-    _fields_ = [("accepted", ctypes.c_bool), ("number", ctypes.c_uint8), ("place", ctypes.c_size_t)]
-
-
-def library():
-    """The proved checker, with its table by value, the reply and the buffer as pointer and length."""
-    shared = os.path.join(tempfile.mkdtemp(), "reply_ffi.so")
-    archive = os.path.join(ROOT, "target/staticlib/libreply_ffi.a")
-    subprocess.run(["cc", "-shared", "-o", shared, "-Wl,--whole-archive", archive, "-Wl,--no-whole-archive"], check=True)
-    check = ctypes.CDLL(shared).check_reply
-    check.argtypes = [jobs.Table, ctypes.c_char_p, ctypes.c_size_t, ctypes.c_char_p, ctypes.c_size_t]
-    check.restype = Answer
-    return check
-
-
-def answer(check, table, reply, buffer):
-    work = ctypes.create_string_buffer(buffer, len(buffer) + 1)
-    a = check(table, reply, len(reply), work, len(buffer))
-    return 0 if a.accepted else a.number, a.place, work.raw[: len(buffer)]
+import tables
 
 
 def model(variables, clauses):
@@ -70,9 +47,9 @@ def model(variables, clauses):
 
 
 def expected(check):
-    """The list of expected.txt, and 45, 51 and 60."""
-    text = open(os.path.join(jobs.HERE, "../generator/jobs/one_bit.txt")).read()
-    table = jobs.table(text)
+    """Both checkers on the list of expected.txt, and the proved one on 45, 51 and 60."""
+    text = open(os.path.join(HERE, "../generator/jobs/one_bit.txt")).read()
+    table, (variables, clauses) = tables.table(text), tables.clauses(text)
     wrong = count = 0
 
     def hold(want, got, what):
@@ -83,52 +60,50 @@ def expected(check):
             print(f"{what!r}: wanted {want}, got {got}")
 
     old = bytes(range(200, 213))
-    for line in open(os.path.join(jobs.HERE, "expected.txt")):
+    for line in open(os.path.join(HERE, "expected.txt")):
         if line.startswith("#"):
             continue
         number, place = map(int, line.split()[:2])
         reply = line.rstrip("\n")[7:].encode().decode("unicode_escape").encode("latin-1")
-        n, p, buffer = answer(check, table, reply, old)
-        hold((number, place), (n, p), reply)
-        held = number in (0, 65) or buffer[:10] == bytes(10)
-        hold((True, old[10:]), (held, buffer[10:]), reply)
-    hold((51, 0, bytes(9)), answer(check, table, b"", bytes(9)), "a buffer of 9 bytes")
+        second = checker.check(variables, clauses, reply, old)
+        hold((number, place, *second), (*second[:2], *check(table, reply, old)), reply)
+    hold((51, 0, bytes(9)), check(table, b"", bytes(9)), "a buffer of 9 bytes")
     long = b"c" * checker.LONGEST
-    hold((60, 0, old), answer(check, table, long + b"c", old), "a byte too many")
-    hold((61, 1), answer(check, table, long, old)[:2], "no byte too many")
+    hold((60, 0, old), check(table, long + b"c", old), "a byte too many")
+    hold((61, 1), check(table, long, old)[:2], "no byte too many")
     table.bound = 0
-    hold((45, 0, bytes(9)), answer(check, table, long + b"c", bytes(9)), "bound 0")
-    print(f"{count} answers written by hand, {wrong} differ")
+    hold((45, 0, bytes(9)), check(table, long + b"c", bytes(9)), "bound 0")
+    print(f"the checker: {count} answers written by hand, {wrong} differ")
     return wrong
 
 
 def compared(check, how_many, seed):
     r = random.Random(seed)
-    texts = [open(os.path.join(jobs.HERE, "../generator/jobs", name)).read() for name in ("one_bit.txt", "larger.txt")]
+    texts = [open(os.path.join(HERE, "../generator/jobs", name)).read() for name in ("one_bit.txt", "larger.txt")]
     texts += ["bound 2\nA0 maybe goto A0\nB0 maybe goto B0\nlemmas\n", texts[0] + "~a\n", texts[0] + "a A0\n B0  ~a\n"]
-    tables = []
+    jobs = []
     for text in texts:
-        variables, clauses = jobs.clauses(text)
-        tables.append((jobs.table(text), variables, clauses, model(variables, clauses)))
+        variables, clauses = tables.clauses(text)
+        jobs.append((tables.table(text), variables, clauses, model(variables, clauses)))
     seen, wrong = collections.Counter(), 0
     for i in range(how_many):
-        table, variables, clauses, solution = tables[i % len(tables)]
+        table, variables, clauses, solution = jobs[i % len(jobs)]
         text = replies.reply(r, variables, solution)
         size = r.choice([variables, variables + 1, variables + r.randrange(1, 300), variables - 1 if r.random() < 0.2 else variables])
         buffer = bytes(r.randrange(256) for _ in range(size))
         want = checker.check(variables, clauses, text, buffer)
-        got = answer(check, table, text, buffer)
+        got = check(table, text, buffer)
         seen[want[0]] += 1
         if want != got:
             wrong += 1
             if wrong < 10:
-                print(f"job {i % len(tables)}, {text!r}: wanted {want[:2]}, got {got[:2]}, buffers {'same' if want[2] == got[2] else 'differ'}")
-    print(f"{how_many} random replies, {wrong} differ;", ", ".join(f"{n}: {seen[n]}" for n in sorted(seen)))
+                print(f"job {i % len(jobs)}, {text!r}: wanted {want[:2]}, got {got[:2]}, buffers {'same' if want[2] == got[2] else 'differ'}")
+    print(f"the checker: {how_many} random replies, {wrong} differ;", ", ".join(f"{n}: {seen[n]}" for n in sorted(seen)))
     return wrong + sum(n not in seen for n in (0, 51, 61, 62, 63, 64, 65, 66))
 
 
 if __name__ == "__main__":
     how_many = int(sys.argv[1]) if len(sys.argv) > 1 else 10000
     seed = int(sys.argv[2]) if len(sys.argv) > 2 else 1
-    check = library()
+    check = calls.call(calls.proved(), "check_reply")
     sys.exit(1 if expected(check) + compared(check, how_many, seed) else 0)

@@ -51,7 +51,7 @@ def word_damage(r, variables, words):
     elif kind == 10:
         r.shuffle(words)
     else:
-        words[i] = b"%d" % -int(words[i]) if words[i] not in (b"", b"0") else b"1"
+        words[i] = words[i][1:] if words[i].startswith(b"-") else b"-" + words[i] if words[i] not in (b"", b"0") else b"1"
     return words
 
 

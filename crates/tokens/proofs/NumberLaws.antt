@@ -39,32 +39,36 @@ pub front-none : (s : List ℕ) (i to : ℕ) → to ≤ i → front (slice i to 
 unfolding front
 front-none s i to h = rw (part-none s i to h)
 
--- digits only: the first is one, and so are the rest
-pub all-digits : (b : ℕ) (bs : List ℕ) → front (b ∷ bs) ≡ b ∷ bs → (48 ≤ b) × (b ≤ 57) × (front bs ≡ bs)
+-- of the first k bytes, fewer than k are digits: these are all
+pub front-short : (k : ℕ) (xs : List ℕ) → length (front (take k xs)) < k → front (take k xs) ≡ front xs
 unfolding front
-all-digits b bs h = go (within 48 57 b) refl h
+front-short zero xs h = absurd (omega arith)
+front-short (suc k) [] h = refl
+front-short (suc k) (b ∷ bs) h = go (within 48 57 b) (front-short k bs) h
   where
-    go : (t : Bool) → within 48 57 b ≡ t → cond t (b ∷ front bs) [] ≡ b ∷ bs → (48 ≤ b) × (b ≤ 57) × (front bs ≡ bs)
-    go true p e = let w = is-within 48 57 b p in (w .0, w .1, cc)
-    go false p e = let z : _≡_ {A = ℕ} 0 1 = cc in absurd (omega arith)
+    go : (t : Bool) → (length (front (take k bs)) < k → front (take k bs) ≡ front bs)
+        → length (cond t (b ∷ front (take k bs)) []) < suc k → cond t (b ∷ front (take k bs)) [] ≡ cond t (b ∷ front bs) []
+    go true rest h = ap (λ (l : List ℕ). b ∷ l) (rest (omega arith))
+    go false rest h = refl
 
-front-take : (xs : List ℕ) → take (length (front xs)) xs ≡ front xs
+pub front-most : (k : ℕ) (xs : List ℕ) → length (front (take k xs)) ≤ length (front xs)
 unfolding front
-front-take [] = refl
-front-take (b ∷ bs) = go (within 48 57 b) (front-take bs)
+front-most zero xs = omega arith
+front-most (suc k) [] = omega arith
+front-most (suc k) (b ∷ bs) = go (within 48 57 b) (front-most k bs)
   where
-    go : (t : Bool) → take (length (front bs)) bs ≡ front bs → take (length (cond t (b ∷ front bs) [])) (b ∷ bs) ≡ cond t (b ∷ front bs) []
-    go true h = ap (λ (l : List ℕ). b ∷ l) h
-    go false h = refl
+    go : (t : Bool) → length (front (take k bs)) ≤ length (front bs) → length (cond t (b ∷ front (take k bs)) []) ≤ length (cond t (b ∷ front bs) [])
+    go true h = omega arith
+    go false h = omega arith
 
-front-front : (xs : List ℕ) → front (front xs) ≡ front xs
+front-length : (xs : List ℕ) → length (front xs) ≤ length xs
 unfolding front
-front-front [] = refl
-front-front (b ∷ bs) = go (within 48 57 b) refl (front-front bs)
+front-length [] = omega arith
+front-length (b ∷ bs) = go (within 48 57 b) (front-length bs)
   where
-    go : (t : Bool) → within 48 57 b ≡ t → front (front bs) ≡ front bs → front (cond t (b ∷ front bs) []) ≡ cond t (b ∷ front bs) []
-    go true e h = rw (e, h)
-    go false e h = refl
+    go : (t : Bool) → length (front bs) ≤ length bs → length (cond t (b ∷ front bs) []) ≤ suc (length bs)
+    go true h = omega arith
+    go false h = omega arith
 
 front-head : (xs : List ℕ) → 0 < length (front xs) → num (front xs) 0 ≡ num xs 0
 unfolding front
@@ -77,17 +81,22 @@ front-head (b ∷ bs) h = go (within 48 57 b) h
 
 -- ---- what digits write
 
-pub decimal-step : (s : List ℕ) (i to v : ℕ) → i < to → to ≤ length s → decimal v (slice i to s) ≡ decimal (v * 10 + (getD s i 0 - 48)) (slice (i + 1) to s)
-unfolding decimal
-decimal-step s i to v h l = ap (decimal v) (part s i to h l)
+-- the scan at i: what is left of the digits, behind v
+module _ (s : List ℕ) (from to i v : ℕ) (left : from + length (front (slice from to s)) ≡ i + length (front (slice i to s)))
+    (writes : decimal 0 (front (slice from to s)) ≡ decimal v (front (slice i to s))) where
+  pub scan-ends : front (slice i to s) ≡ [] → (i ≡ from + length (front (slice from to s))) × (v ≡ decimal 0 (front (slice from to s)))
+  unfolding decimal
+  scan-ends e = (omega (arith, ap length e), sym (writes ∙ ap (decimal v) e))
 
-pub decimal-none : (s : List ℕ) (i to v : ℕ) → to ≤ i → decimal v (slice i to s) ≡ v
-unfolding decimal
-decimal-none s i to v h = rw (part-none s i to h)
+  pub scan-on : {d : ℕ} → front (slice i to s) ≡ d ∷ front (slice (i + 1) to s)
+      → (from + length (front (slice from to s)) ≡ i + 1 + length (front (slice (i + 1) to s)))
+      × (decimal 0 (front (slice from to s)) ≡ decimal (v * 10 + (d - 48)) (front (slice (i + 1) to s)))
+  unfolding decimal
+  scan-on e = (omega (arith, ap length e), writes ∙ ap (decimal v) e)
 
--- below 10 ^ 6 before the last of 7 digits
-pub six-digits : (j : ℕ) → j ≤ 6 → 10 ^ j ≤ 1000000
-six-digits j h = pow-le-pow-right {n = 10} (omega arith) {i = j} {j = 6} h
+-- below 10 ^ 7 before the last of 8 digits
+pub seven-digits : (j : ℕ) → j ≤ 7 → 10 ^ j ≤ 10000000
+seven-digits j h = pow-le-pow-right {n = 10} (omega arith) {i = j} {j = 7} h
 
 pub one-digit-more : (j : ℕ) → 10 ^ (j + 1) ≡ 10 * 10 ^ j
 one-digit-more j = ap (λ (n : ℕ). 10 ^ n) (add-one j) ∙ pow-suc 10 j ∙ omega arith
@@ -132,36 +141,43 @@ unsigned-value : (on : Bool) (xs : List ℕ) → allowed (front xs) ≡ true
 unfolding unsigned
 unsigned-value on xs h = rw h
 
--- e is where the digits end
-module _ (on : Bool) (s : List ℕ) (from to e : ℕ) (l : from ≤ to) (k : to ≤ length s) (at : e ≡ from + length (front (slice from to s))) (le : e ≤ to) where
+-- e is where the digits of the first eight bytes end, and v is what they write
+module _ (on : Bool) (s : List ℕ) (from to to8 e v : ℕ) (l : from ≤ to) (k : to ≤ length s) (eight : slice from to8 s ≡ take 8 (slice from to s))
+    (at : e ≡ from + length (front (slice from to8 s))) (is : v ≡ decimal 0 (front (slice from to8 s))) where
   abbrev w : List ℕ
   w = slice from to s
 
-  digits-part : slice from e s ≡ front w
-  digits-part = ap (λ (j : ℕ). slice from j s) at ∙ sym (part-take s from to (length (front w)) (omega arith)) ∙ front-take w
+  at8 : e ≡ from + length (front (take 8 w))
+  at8 = at ∙ ap (λ (x : List ℕ). from + length (front x)) eight
 
-  pub digits-all : front (slice from e s) ≡ slice from e s
-  digits-all = rw digits-part (front-front w)
+  all : e - from ≤ 7 → front (slice from to8 s) ≡ front w
+  all h = ap front eight ∙ front-short 8 w (omega (arith, at8))
+
+  count : e - from ≤ 7 → e ≡ from + length (front w)
+  count h = at ∙ ap (λ (x : List ℕ). from + length x) (all h)
 
   head : from < e → num (front w) 0 ≡ getD s from 0
-  head h = front-head w (omega arith) ∙ rw (part s from to (omega arith) k)
+  head h =
+      let some = front-most 8 w in
+      let short = length-slice from to s k in
+      front-head w (omega (arith, at8)) ∙ rw (part s from to (omega (arith, at8, front-length w)) k)
 
   pub no-digit : e ≡ from → Bad ≡ unsigned on w
-  no-digit h = unsigned-bad on w (allowed-none (front w) (omega arith))
+  no-digit h = unsigned-bad on w (allowed-none (front w) (omega (arith, count (omega arith))))
 
   pub too-long : 7 < e - from → Bad ≡ unsigned on w
-  too-long h = unsigned-bad on w (allowed-long (front w) (omega arith))
+  too-long h = unsigned-bad on w (allowed-long (front w) (omega (arith, at8, front-most 8 w)))
 
   pub leading-zero : getD s from 0 ≡ 48 → 1 < e - from → Bad ≡ unsigned on w
-  leading-zero z h = unsigned-bad on w (allowed-zero (front w) (head (omega arith) ∙ z) (omega arith))
+  leading-zero z h = unsigned-bad on w (allowed-zero (front w) (head (omega arith) ∙ z) (omega (arith, at8, front-most 8 w)))
 
-  pub a-number : from < e → e - from ≤ 7 → (getD s from 0 ≡ 48 → e - from ≤ 1) → (v : ℕ) → v ≡ decimal 0 (slice from e s)
-      → numbered on v (eqb e to) ≡ unsigned on w
-  a-number x y z v q =
+  pub a-number : from < e → e - from ≤ 7 → (getD s from 0 ≡ 48 → e - from ≤ 1) → numbered on v (eqb e to) ≡ unsigned on w
+  a-number x y z =
       let n = length (front w) in
+      let c = count y in
       let zero : num (front w) 0 ≡ 48 → n ≤ 1 = λ p. omega (arith, z (sym (head x) ∙ p)) in
       let ends : eqb e to ≡ eqb n (length w) = same-test e to n (length w) (λ p. omega (arith, length-slice from to s k)) (λ p. omega (arith, length-slice from to s k)) in
-      rw (ends, q, digits-part) (unsigned-value on w (allowed-is (front w) (omega arith) (omega arith) zero))
+      rw (ends, is, all y) (unsigned-value on w (allowed-is (front w) (omega arith) (omega arith) zero))
 
 pub is-number : (on whole : Bool) (v : ℕ) → (v ≡ 0 → ⊥) → Number on (v - 1) whole ≡ numbered on v whole
 is-number on whole zero h = absurd (h refl)

@@ -58,36 +58,38 @@ pub fn begins(s: &[u8], from: usize, to: usize, t: &[u8]) -> bool
     true
 }
 
-// Where the digits end.
-fn digits(s: &[u8], from: usize, to: usize) -> usize
-    requires { ⌜ (from ≤ to) × (to ≤ length (now s)) ⌝ }
-    ensures { λ r. ⌜ (r ≡ from + length (front (slice from to (now (s .entry))))) × (from ≤ r) × (r ≤ to) ⌝ }
-{
-    let mut i = from;
-    while i < to {
-        if s[i] < 48 {
-            return i;
-        }
-        if 57 < s[i] {
-            return i;
-        }
-        i += 1;
-    }
-    i
+// Where the digits at the front of a part end, and the number that they write.
+struct Front {
+    pub end: usize,
+    pub value: usize,
 }
 
-// The number that at most seven digits write.
-fn value(s: &[u8], from: usize, to: usize) -> usize
-    requires { ⌜ (from ≤ to) × (to ≤ length (now s)) × (to - from ≤ 7) × (front (slice from to (now s)) ≡ slice from to (now s)) ⌝ }
-    ensures { λ r. ⌜ r ≡ decimal 0 (slice from to (now (s .entry))) ⌝ }
+// Eight digits are too many already: no more bytes of a number are looked at.
+fn eight_bytes(s: &[u8], from: usize, to: usize) -> usize
+    requires { ⌜ (from ≤ to) × (to ≤ length (now s)) ⌝ }
+    ensures { λ r. ⌜ (from ≤ r) × (r ≤ to) × (r - from ≤ 8) × (slice from r (now (s .entry)) ≡ take 8 (slice from to (now (s .entry)))) ⌝ }
+{
+    if to - from <= 8 { to } else { from + 8 }
+}
+
+// The digits of at most eight bytes.
+fn digits(s: &[u8], from: usize, to: usize) -> Front
+    requires { ⌜ (from ≤ to) × (to ≤ length (now s)) × (to - from ≤ 8) ⌝ }
+    ensures { λ r. ⌜ (r .end ≡ from + length (front (slice from to (now (s .entry))))) × (from ≤ r .end) × (r .end ≤ to) × (r .value ≡ decimal 0 (front (slice from to (now (s .entry))))) ⌝ }
 {
     let mut v: usize = 0;
     let mut i = from;
     while i < to {
+        if s[i] < 48 {
+            return Front { end: i, value: v };
+        }
+        if 57 < s[i] {
+            return Front { end: i, value: v };
+        }
         v = v * 10 + (s[i] as usize - 48);
         i += 1;
     }
-    v
+    Front { end: i, value: v }
 }
 
 // A number by its sign: 0 closes, and there is no `-0`.
@@ -110,7 +112,8 @@ fn unsigned(s: &[u8], on: bool, from: usize, to: usize) -> Token
     requires { ⌜ (from ≤ to) × (to ≤ length (now s)) ⌝ }
     ensures { λ r. ⌜ r ≡ unsignedToken on (slice from to (now (s .entry))) ⌝ }
 {
-    let e = digits(s, from, to);
+    let d = digits(s, from, eight_bytes(s, from, to));
+    let e = d.end;
     if e == from {
         return Token::Bad;
     }
@@ -122,7 +125,7 @@ fn unsigned(s: &[u8], on: bool, from: usize, to: usize) -> Token
             return Token::Bad;
         }
     }
-    numbered(on, value(s, from, e), e == to)
+    numbered(on, d.value, e == to)
 }
 
 // The word that is this part.

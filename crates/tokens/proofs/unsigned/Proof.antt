@@ -3,31 +3,36 @@ use mathlib.Core.Path.{_≡_, _∙_}
 use mathlib.Core.Logic.{⊎-elim}
 use Prim.Native.Nat.{zero, _-_, _≤_, _<_}
 use native.Mathlib.Omega.{arith}
-use borrow.Author.Needs.{needs}
 use lib.ListN.{getD}
-use Rattle.tokens.proofs.NumberLaws.{no-digit, too-long, leading-zero, digits-all, a-number}
+use Rattle.tokens.proofs.NumberLaws.{no-digit, too-long, leading-zero, a-number}
+use borrow.Author.Needs.{needs}
 use Rattle.tokens.proofs.unsigned.Statement.{statement}
 use Rattle.tokens.proofs.unsigned.Tie as tie
+
+eight-bytes-requires : tie.Need-eight-bytes-requires
+eight-bytes-requires c κs = search needs
 
 digits-requires : tie.Need-digits-requires
 digits-requires c κs = search needs
 
 returns : tie.Need-returns
 returns c =
-    let a = c .before .before .before .args in
+    let a = c .before .before .before .before .args in
+    let p = c .before .before .before .before .pre in
+    let eight = c .before .before .eight-bytes in
     let d = c .before .digits in
-    let p = c .before .before .before .pre in
-    no-digit (a .on) (a .s .now) (a .from) (a .to) (d .result) (p .0) (p .1) (d .ensures .0) (d .ensures .2) (c .if1 .taken)
+    no-digit (a .on) (a .s .now) (a .from) (a .to) (eight .result) (d .result .end) (d .result .value) (p .0) (p .1) (eight .ensures .3) (d .ensures .0) (d .ensures .3) (c .if1 .taken)
 
 sub-if2 : tie.Need-sub-if2
 sub-if2 c = search needs
 
 returns-2 : tie.Need-returns-2
 returns-2 c =
-    let a = c .before .before .before .before .args in
+    let a = c .before .before .before .before .before .args in
+    let p = c .before .before .before .before .before .pre in
+    let eight = c .before .before .before .eight-bytes in
     let d = c .before .before .digits in
-    let p = c .before .before .before .before .pre in
-    too-long (a .on) (a .s .now) (a .from) (a .to) (d .result) (p .0) (p .1) (d .ensures .0) (d .ensures .2) (omega arith)
+    too-long (a .on) (a .s .now) (a .from) (a .to) (eight .result) (d .result .end) (d .result .value) (p .0) (p .1) (eight .ensures .3) (d .ensures .0) (d .ensures .3) (omega arith)
 
 shared-slice-read-if3 : tie.Need-shared-slice-read-if3
 shared-slice-read-if3 c = search needs
@@ -37,18 +42,11 @@ sub-if4 c = search needs
 
 returns-3 : tie.Need-returns-3
 returns-3 c =
-    let a = c .before .before .before .before .before .before .before .args in
+    let a = c .before .before .before .before .before .before .before .before .args in
+    let p = c .before .before .before .before .before .before .before .before .pre in
+    let eight = c .before .before .before .before .before .before .eight-bytes in
     let d = c .before .before .before .before .before .digits in
-    let p = c .before .before .before .before .before .before .before .pre in
-    leading-zero (a .on) (a .s .now) (a .from) (a .to) (d .result) (p .0) (p .1) (d .ensures .0) (d .ensures .2) (c .before .if3 .taken) (c .if4 .taken)
-
-value-requires : tie.Need-value-requires
-value-requires c κs =
-    let a = c .before .before .before .before .before .before .args in
-    let d = c .before .before .before .before .digits in
-    let p = c .before .before .before .before .before .before .pre in
-    let all = digits-all (a .on) (a .s .now) (a .from) (a .to) (d .result) (p .0) (p .1) (d .ensures .0) (d .ensures .2) in
-    (omega arith, omega arith, omega arith, all)
+    leading-zero (a .on) (a .s .now) (a .from) (a .to) (eight .result) (d .result .end) (d .result .value) (p .0) (p .1) (eight .ensures .3) (d .ensures .0) (d .ensures .3) (c .before .if3 .taken) (c .if4 .taken)
 
 numbered-requires : tie.Need-numbered-requires
 numbered-requires c κs = search needs
@@ -56,18 +54,20 @@ numbered-requires c κs = search needs
 returns-4 : tie.Need-returns-4
 returns-4 c =
     let a = c .before .before .before .before .before .before .before .before .args in
-    let d = c .before .before .before .before .before .before .digits in
     let p = c .before .before .before .before .before .before .before .before .pre in
-    let some : a .from < d .result = omega arith in
-    let zero : getD (a .s .now) (a .from) 0 ≡ 48 → d .result - a .from ≤ 1 =
-    ⊎-elim (λ w. λ z. omega arith) (λ w. λ z. absurd (w .left z)) (c .before .before .if3 .came) in
-    let is = a-number (a .on) (a .s .now) (a .from) (a .to) (d .result) (p .0) (p .1) (d .ensures .0) (d .ensures .2) in
-    c .numbered .ensures ∙ is some (omega arith) zero (c .before .value .result) (c .before .value .ensures)
+    let eight = c .before .before .before .before .before .before .eight-bytes in
+    let d = c .before .before .before .before .before .digits in
+    let some : a .from < d .result .end = omega arith in
+    let zero : getD (a .s .now) (a .from) 0 ≡ 48 → d .result .end - a .from ≤ 1 =
+    ⊎-elim (λ w. λ z. omega arith) (λ w. λ z. absurd (w .left z)) (c .before .if3 .came) in
+    c .numbered .ensures
+    ∙ a-number (a .on) (a .s .now) (a .from) (a .to) (eight .result) (d .result .end) (d .result .value) (p .0) (p .1) (eight .ensures .3) (d .ensures .0) (d .ensures .3) some (omega arith) zero
 
 pub unsigned-spec : {M : Type 1} → statement M
 unsigned-spec =
     tie.close
     (tie.spec
+    eight-bytes-requires
     digits-requires
     returns
     sub-if2
@@ -75,6 +75,5 @@ unsigned-spec =
     shared-slice-read-if3
     sub-if4
     returns-3
-    value-requires
     numbered-requires
     returns-4)

@@ -7,8 +7,10 @@ use Rattle.job.specs.declared.Job.{Job}
 use Rattle.job.specs.declared.Program.{Program}
 use Rattle.job.specs.Limits.{maxSteps}
 use Rattle.reply.specs.Check.{Outcome, accepted, refused}
-use Rattle.reply_ffi.specs.declared.Table.{Table}
-use Rattle.reply_ffi.specs.declared.Answer.{Answer}
+use Rattle.readoff.specs.declared.Told.{Told}
+use Rattle.readoff.specs.declared.Told.the-variants.{Written, Refused}
+use Rattle.foreign.specs.declared.Table.{Table}
+use Rattle.foreign.specs.declared.Answer.{Answer}
 
 abbrev pub programOf : Table → Program
 programOf t = record {
@@ -37,3 +39,7 @@ jobOf t = record {
 -- accepted, or refused with number and place
 abbrev pub outcomeOf : Answer → List ℕ → Outcome
 outcomeOf a work = cond (a .accepted) (accepted work) (refused (a .number) (a .place) work)
+
+-- the same of reading off and run to values
+abbrev pub toldOf : Answer → Told
+toldOf a = cond (a .accepted) Written (Refused (record { number = a .number; place = a .place }))

@@ -1,7 +1,8 @@
+-- The names are empty, and every other field is the table's own.
 use borrow.Author.Needs.{needs}
-use Rattle.reply_ffi.specs.Foreign.{jobOf}
-use Rattle.reply_ffi.proofs.job_of.Statement.{statement}
-use Rattle.reply_ffi.proofs.job_of.Tie as tie
+use Rattle.foreign.specs.Foreign.{jobOf}
+use Rattle.foreign.proofs.job_of.Statement.{statement}
+use Rattle.foreign.proofs.job_of.Tie as tie
 
 program-of-requires : tie.Need-program-of-requires
 program-of-requires c κs = search needs

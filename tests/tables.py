@@ -4,13 +4,14 @@ import os
 import subprocess
 import tempfile
 
-HERE = os.path.dirname(os.path.abspath(__file__))
+TESTS = os.path.dirname(os.path.abspath(__file__))
+ROOT = os.path.dirname(TESTS)
 STEPS, LEMMAS, NAMES = 100, 100, 64
 KINDS = {"maybe": 1, "critical": 2, "if": 4}
 
 
 class Table(ctypes.Structure):
-    """The table as crate `reply_ffi` takes it."""
+    """The table as crate `foreign` takes it."""
 
     _fields_ = [(name, ctypes.c_size_t) for name in ("bound", "steps", "variables")]
     _fields_ += [(name, ctypes.c_uint8 * STEPS) for name in ("process", "kind")]
@@ -53,7 +54,7 @@ def clauses(text):
     """The number of variables and the clauses, as the separate generator prints them."""
     with tempfile.TemporaryDirectory() as folder:
         program = os.path.join(folder, "generator")
-        subprocess.run(["cc", "-O2", "-std=c11", os.path.join(HERE, "../generator/generator.c"), "-o", program], check=True)
+        subprocess.run(["cc", "-O2", "-std=c11", os.path.join(TESTS, "generator/generator.c"), "-o", program], check=True)
         printed = subprocess.run([program], input=text, capture_output=True, text=True, check=True).stdout
     rows = [line.split() for line in printed.split("\n") if line and not line.startswith("c")]
     return int(rows[0][2]), [[int(n) for n in row[:-1]] for row in rows[1:]]

@@ -1,9 +1,12 @@
-// The check of a reply for a caller in C: the tests hold it to a second checker.
+// The checker, reading off and run to values for a caller in C: the tests hold them to second ones.
 ghost use mathlib.Core.Path.{_≡_};
 ghost use Rattle.reply.specs.Check.{checked};
-ghost use Rattle.reply_ffi.specs.Foreign.{programOf, jobOf, outcomeOf};
+ghost use Rattle.readoff.specs.ReadingOff.{readingOff};
+ghost use Rattle.values.specs.ToValues.{givingValues};
+ghost use Rattle.foreign.specs.Foreign.{programOf, jobOf, outcomeOf, toldOf};
 use job::Job;
 use job::Program;
+use readoff::Told;
 use reply::Checked;
 
 // A job's table without its names, as C lays it out.
@@ -87,4 +90,35 @@ pub extern "C" fn check_reply(t: Table, reply: &[u8], work: &mut [u8]) -> Answer
             place: r.place,
         },
     }
+}
+
+fn answer_of(told: Told) -> Answer
+    ensures { λ r. ⌜ toldOf r ≡ told ⌝ }
+{
+    match told {
+        Told::Written => Answer {
+            accepted: true,
+            number: 0,
+            place: 0,
+        },
+        Told::Refused(r) => Answer {
+            accepted: false,
+            number: r.number,
+            place: r.place,
+        },
+    }
+}
+
+#[no_mangle]
+pub extern "C" fn read_off(t: Table, values: &[u8], run: &mut [u8]) -> Answer
+    ensures { λ r. ⌜ (toldOf r ≡ readingOff (jobOf t) (now (values .entry)) (now (run .entry)) .answer) × (now (run .exit) ≡ readingOff (jobOf t) (now (values .entry)) (now (run .entry)) .buffer) ⌝ }
+{
+    answer_of(readoff::read_off(job_of(t), values, run))
+}
+
+#[no_mangle]
+pub extern "C" fn run_to_values(t: Table, run: &[u8], values: &mut [u8]) -> Answer
+    ensures { λ r. ⌜ (toldOf r ≡ givingValues (jobOf t) (now (run .entry)) (now (values .entry)) .answer) × (now (values .exit) ≡ givingValues (jobOf t) (now (run .entry)) (now (values .entry)) .buffer) ⌝ }
+{
+    answer_of(values::run_to_values(job_of(t), run, values))
 }

@@ -1,8 +1,8 @@
 -- The job is the table's, and each case of the answer keeps its number and place.
 use borrow.Author.Needs.{needs}
-use Rattle.reply_ffi.proofs.AnswerLaws.{says-accepted, says-refused}
-use Rattle.reply_ffi.proofs.check_reply.Statement.{statement}
-use Rattle.reply_ffi.proofs.check_reply.Tie as tie
+use Rattle.foreign.proofs.AnswerLaws.{says-accepted, says-refused}
+use Rattle.foreign.proofs.check_reply.Statement.{statement}
+use Rattle.foreign.proofs.check_reply.Tie as tie
 
 job-of-requires : tie.Need-job-of-requires
 job-of-requires c κs = search needs

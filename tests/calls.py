@@ -1,0 +1,49 @@
+"""The proved checker, reading off and run to values of crate `foreign`, for Python."""
+import ctypes
+import glob
+import os
+import subprocess
+import tempfile
+
+import tables
+
+ARCHIVE = "target/staticlib/libforeign.a"
+
+
+class Answer(ctypes.Structure):
+    _fields_ = [("accepted", ctypes.c_bool), ("number", ctypes.c_uint8), ("place", ctypes.c_size_t)]
+
+
+def archive():
+    """The static library, built where it is missing or older than a crate."""
+    path = os.path.join(tables.ROOT, ARCHIVE)
+    sources = glob.glob(os.path.join(tables.ROOT, "crates/**/*.*"), recursive=True)
+    if not os.path.exists(path) or os.path.getmtime(path) < max(map(os.path.getmtime, sources)):
+        subprocess.run(["rt", "staticlib", "foreign"], cwd=tables.ROOT, check=True, stdout=subprocess.DEVNULL, stderr=subprocess.DEVNULL)
+    return path
+
+
+def shared(*words):
+    """A shared library that cc makes by these words."""
+    with tempfile.TemporaryDirectory() as folder:
+        path = os.path.join(folder, "lib.so")
+        subprocess.run(["cc", "-shared", "-o", path, *words], check=True)
+        return ctypes.CDLL(path)
+
+
+def proved():
+    return shared("-Wl,--whole-archive", archive(), "-Wl,--no-whole-archive")
+
+
+def call(library, name):
+    """A call that takes a table, what it reads and the buffer that it writes; it gives number (0: none), place and the buffer."""
+    function = getattr(library, name)
+    function.argtypes = [tables.Table, ctypes.c_char_p, ctypes.c_size_t, ctypes.c_char_p, ctypes.c_size_t]
+    function.restype = Answer
+
+    def answer(table, read, buffer):
+        written = ctypes.create_string_buffer(buffer, len(buffer) + 1)
+        a = function(table, read, len(read), written, len(buffer))
+        return 0 if a.accepted else a.number, a.place, written.raw[: len(buffer)]
+
+    return answer
