@@ -4,7 +4,7 @@ ghost use Prim.Native.Nat.{_+_, _-_, _≤_};
 ghost use lib.ListN.{length, take};
 ghost use lib.Seq.{slice};
 ghost use Rattle.lists.specs.Pieces.{upTo, starts};
-ghost use Rattle.tokens.specs.Numbers.{front, decimal, numbered as numberedToken, unsigned as unsignedToken, token};
+ghost use Rattle.tokens.specs.Numbers.{front, decimal, numbered as numberedToken, unsigned as unsignedToken, wordAt};
 
 // A word between spaces.
 pub enum Token {
@@ -14,6 +14,12 @@ pub enum Token {
     Zero,
     // Number x + 1 with its sign, true without `-`, and whether its digits end the word.
     Number(bool, usize, bool),
+}
+
+// A word, and where it ends: at a space, or with its line.
+pub struct Word {
+    pub token: Token,
+    pub end: usize,
 }
 
 // Where a part that is to end at to ends: there, or at the text's end.
@@ -107,38 +113,41 @@ fn numbered(on: bool, v: usize, whole: bool) -> Token
     Token::Number(on, v - 1, whole)
 }
 
-// A number behind its sign.
-fn unsigned(s: &[u8], on: bool, from: usize, to: usize) -> Token
+// A number behind its sign. Digits that a space or the line's end follows end the word; only any other word is looked through for its end.
+fn unsigned(s: &[u8], on: bool, from: usize, to: usize) -> Word
     requires { ⌜ (from ≤ to) × (to ≤ length (now s)) ⌝ }
-    ensures { λ r. ⌜ r ≡ unsignedToken on (slice from to (now (s .entry))) ⌝ }
+    ensures { λ r. ⌜ (r .token ≡ unsignedToken on (upTo 32 (slice from to (now (s .entry))))) × (r .end ≡ from + length (upTo 32 (slice from to (now (s .entry))))) ⌝ }
 {
     let d = digits(s, from, eight_bytes(s, from, to));
     let e = d.end;
+    let end = find(s, 32, e, to);
     if e == from {
-        return Token::Bad;
+        return Word { token: Token::Bad, end };
     }
     if 7 < e - from {
-        return Token::Bad;
+        return Word { token: Token::Bad, end };
     }
     if s[from] == 48 {
         if 1 < e - from {
-            return Token::Bad;
+            return Word { token: Token::Bad, end };
         }
     }
-    numbered(on, d.value, e == to)
+    Word { token: numbered(on, d.value, e == end), end }
 }
 
-// The word that is this part.
-pub fn token_at(s: &[u8], from: usize, to: usize) -> Token
-    ensures { λ r. ⌜ r ≡ token (slice from to (now (s .entry))) ⌝ }
+// The word that starts here in a line that ends at to.
+pub fn word_at(s: &[u8], from: usize, to: usize) -> Word
+    ensures { λ r. ⌜ r ≡ wordAt (now (s .entry)) from to ⌝ }
 {
     let e = end(s, to);
     if e <= from {
-        return Token::Bad;
+        return Word { token: Token::Bad, end: from };
     }
+    let mut on = true;
+    let mut at = from;
     if s[from] == 45 {
-        unsigned(s, false, from + 1, e)
-    } else {
-        unsigned(s, true, from, e)
+        on = false;
+        at = from + 1;
     }
+    unsigned(s, on, at, e)
 }
