@@ -122,17 +122,29 @@ fn unsigned(s: &[u8], on: bool, from: usize, to: usize) -> Word
     let e = d.end;
     let end = find(s, 32, e, to);
     if e == from {
-        return Word { token: Token::Bad, end };
+        return Word {
+            token: Token::Bad,
+            end,
+        };
     }
     if 7 < e - from {
-        return Word { token: Token::Bad, end };
+        return Word {
+            token: Token::Bad,
+            end,
+        };
     }
     if s[from] == 48 {
         if 1 < e - from {
-            return Word { token: Token::Bad, end };
+            return Word {
+                token: Token::Bad,
+                end,
+            };
         }
     }
-    Word { token: numbered(on, d.value, e == end), end }
+    Word {
+        token: numbered(on, d.value, e == end),
+        end,
+    }
 }
 
 // The word that starts here in a line that ends at to.
@@ -141,7 +153,10 @@ pub fn word_at(s: &[u8], from: usize, to: usize) -> Word
 {
     let e = end(s, to);
     if e <= from {
-        return Word { token: Token::Bad, end: from };
+        return Word {
+            token: Token::Bad,
+            end: from,
+        };
     }
     let mut on = true;
     let mut at = from;
