@@ -10,9 +10,10 @@ use lib.ListN.{length, take, set}
 use lib.Seq.{slice, drop-drop, length-slice}
 use Rattle.lists.specs.Rows.{num}
 use Rattle.lists.specs.Pieces.{Pieces, last, piece, cut, upTo, starts, is}
-use Rattle.lists.proofs.PieceLaws.{cut-last, cut-piece, starts-length}
+use Rattle.lists.proofs.PieceLaws.{part-take, take-upTo, up-within, cut-last, cut-piece, starts-length}
 use Rattle.tokens.specs.declared.Token.the-variants.{Number}
-use Rattle.tokens.specs.Numbers.{token}
+use Rattle.tokens.specs.declared.Word.{Word}
+use Rattle.tokens.specs.Numbers.{token, wordAt}
 use Rattle.reply.specs.declared.Numbers.{Numbers}
 use Rattle.reply.specs.declared.Numbers.the-variants.{Fault, More, Closed}
 use Rattle.reply.specs.Said.{mark, marks}
@@ -37,6 +38,18 @@ module _ (N : ℕ) (m : List ℕ) (on : Bool) (x : ℕ) (whole : Bool) where
   pub say-more : x < N → num m x ≡ 0 → whole ≡ true → (b : Bool) → on ≡ b → more (set m x (mark b)) ≡ sayIn marks N m (Number on x whole)
   unfolding sayIn
   say-more h k e b f = rw (lt-ltb x N h, eq-eqb (num m x) 0 k, e, f)
+
+-- ---- a word ends within its line
+
+pub word-in : (s : List ℕ) (i to : ℕ) → i ≤ to → to ≤ length s → (w : Word) → w ≡ wordAt s i to
+    → (w .token ≡ token (slice i (w .end) s)) × (w .end ≡ i + length (upTo 32 (slice i to s))) × (i ≤ w .end) × (w .end ≤ to)
+unfolding wordAt
+word-in s i to l h w e =
+    let up = upTo 32 (slice i to s) in
+    let within = up-within 32 s i to l h in
+    let end : w .end ≡ i + length up = ap (λ (v : Word). v .end) e in
+    let same : slice i (w .end) s ≡ up = ap (λ (j : ℕ). slice i j s) end ∙ sym (part-take s i to (length up) within) ∙ take-upTo 32 (slice i to s) in
+    (ap (λ (v : Word). v .token) e ∙ sym (ap token same), end, omega arith, omega arith)
 
 -- ---- the words of a line; r is the answer to the first, which ends at e, and m′ the marks behind it
 

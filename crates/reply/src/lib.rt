@@ -6,6 +6,7 @@ ghost use lib.ListN.{length, drop};
 ghost use lib.Seq.{slice};
 ghost use Rattle.lists.specs.Rows.{num};
 ghost use Rattle.lists.specs.Pieces.{cut, upTo, is};
+ghost use Rattle.tokens.specs.Numbers.{token};
 ghost use Rattle.reply.specs.Said.{marks};
 ghost use Rattle.reply.specs.Lines.{comment, opening, unended, sayIn, numbersIn, valueLineIn, valueLinesIn, closing};
 ghost use Rattle.reply.specs.Reply.{heardIn, missing, valuesRead};
@@ -17,6 +18,7 @@ use cnf::Evaluation;
 use job::Job;
 use job::Refusal;
 use tokens::Token;
+use tokens::Word;
 use totals::Count;
 
 // The longest reply.
@@ -51,13 +53,13 @@ fn line_end(s: &[u8], at: usize) -> usize
     requires { ⌜ at ≤ length (now s) ⌝ }
     ensures { λ r. ⌜ (r ≡ at + length (upTo 10 (slice at (length (now (s .entry))) (now (s .entry))))) × (at ≤ r) × (r ≤ length (now (s .entry))) ⌝ }
 {
-    reader::line_at(s, at)
+    reader::line_at(s, at, s.len())
 }
 
-// Where the word that starts at at ends: at a space, or with the line, which ends at to.
-fn word_end(s: &[u8], at: usize, to: usize) -> usize
+// The word that starts at at, in a line that ends at to.
+fn word_in(s: &[u8], at: usize, to: usize) -> Word
     requires { ⌜ (at ≤ to) × (to ≤ length (now s)) ⌝ }
-    ensures { λ r. ⌜ (r ≡ at + length (upTo 32 (slice at to (now (s .entry))))) × (at ≤ r) × (r ≤ to) ⌝ }
+    ensures { λ r. ⌜ (r .token ≡ token (slice at (r .end) (now (s .entry)))) × (r .end ≡ at + length (upTo 32 (slice at to (now (s .entry))))) × (at ≤ r .end) × (r .end ≤ to) ⌝ }
 {
     reader::word_at(s, at, to)
 }
@@ -139,8 +141,9 @@ fn read_numbers(s: &[u8], from: usize, to: usize, work: &mut [u8], n: usize) -> 
 {
     let mut at = from;
     loop {
-        let e = word_end(s, at, to);
-        let t = reader::token_at(s, at, e);
+        let w = word_in(s, at, to);
+        let e = w.end;
+        let t = w.token;
         let r = mark(t, &mut *work, n);
         if e == to {
             return r;
