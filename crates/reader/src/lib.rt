@@ -17,7 +17,7 @@ pub struct Reader<'a> {
 fn line_from(s: &[u8], at: usize, to: usize) -> usize
     ensures { λ r. ⌜ r ≡ at + length (upTo 10 (slice at to (now (s .entry)))) ⌝ }
 {
-    tokens::find(s, 10, at, to)
+    tokens::find_far(s, 10, at, to)
 }
 
 fn new<'a>(src: &'a [u8], at: usize) -> Reader<'a>

@@ -1,2 +1,3 @@
--- The laws of one number of a reply.
+-- The laws of a search and of one number of a reply.
+pub mod FindLaws
 pub mod NumberLaws

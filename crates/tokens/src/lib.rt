@@ -44,6 +44,33 @@ pub fn find(s: &[u8], k: u8, from: usize, to: usize) -> usize
     i
 }
 
+// The same, four bytes a turn: quicker where k stands far on.
+pub fn find_far(s: &[u8], k: u8, from: usize, to: usize) -> usize
+    ensures { λ r. ⌜ r ≡ from + length (upTo k (slice from to (now (s .entry)))) ⌝ }
+{
+    let e = end(s, to);
+    if e < 4 {
+        return find(s, k, from, to);
+    }
+    let mut i = from;
+    while i <= e - 4 {
+        if s[i] == k {
+            return i;
+        }
+        if s[i + 1] == k {
+            return i + 1;
+        }
+        if s[i + 2] == k {
+            return i + 2;
+        }
+        if s[i + 3] == k {
+            return i + 3;
+        }
+        i += 4;
+    }
+    find(s, k, i, e)
+}
+
 // The part begins with t.
 pub fn begins(s: &[u8], from: usize, to: usize, t: &[u8]) -> bool
     ensures { λ r. ⌜ r ≡ starts (now (t .entry)) (slice from to (now (s .entry))) ⌝ }
