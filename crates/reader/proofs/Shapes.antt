@@ -18,8 +18,11 @@ use denote.Plain.{uint-lawful}
 use denote.Ref.{now}
 use denote.RattleType.{RattleType}
 use denote.Signature.{plain, namedLft}
+use denote.Enum.Laws as EL
 use denote.Struct.Laws as LL
 use denote.Triple.Clauses.{Ended, Clauses}
+use Rattle.tokens.proofs.Kind as Kind
+use Rattle.tokens.proofs.Kind.Laws as Kind′
 use Rattle.tokens.proofs.Word as Word
 use Rattle.tokens.proofs.Word.Laws as Word′
 use Rattle.reader.proofs.Reader as T
@@ -36,6 +39,9 @@ module _ {M : Type 1} (𝓤 : URA M) (H : Heap 𝓤) (A : Atoms 𝓤) where
 
   abbrev pub word : Given 𝓤 H A → Result
   word W = record { row = Word.the-row; ty = Word′.mir; typed = λ x u is. LL.lawful Word.the-type Word′.the-laws 𝓤 H A W .typed x _ is .0 }
+
+  abbrev pub kind : Given 𝓤 H A → Result
+  kind W = record { row = Kind.the-row; ty = Kind′.mir; typed = λ x u is. EL.lawful Kind.the-type Kind′.the-laws 𝓤 H A W tt .typed x _ is .0 }
 
 module _ (R : RattleType) where
   -- (r: Reader, to: usize) -> R

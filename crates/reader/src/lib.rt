@@ -4,8 +4,9 @@ ghost use mathlib.Core.Path.{_≡_};
 ghost use Prim.Native.Nat.{_+_};
 ghost use lib.ListN.{length};
 ghost use lib.Seq.{slice};
-ghost use Rattle.lists.specs.Pieces.{upTo, starts};
+ghost use Rattle.lists.specs.Pieces.{upTo};
 ghost use Rattle.tokens.specs.Numbers.{wordAt};
+ghost use Rattle.tokens.specs.Kinds.{kindOf};
 
 // The reply and the place in it.
 pub struct Reader<'a> {
@@ -40,11 +41,11 @@ fn word<'a>(r: Reader<'a>, to: usize) -> tokens::Word
     tokens::word_at(r.src, r.at, to)
 }
 
-// The part from here to to begins with t.
-fn begins<'a>(r: Reader<'a>, to: usize, t: &[u8]) -> bool
-    ensures { λ b. ⌜ b ≡ starts (now (t .entry)) (slice (r .entry .at) to (now (r .entry .src))) ⌝ }
+// The kind of the line from here to to.
+fn kind<'a>(r: Reader<'a>, to: usize) -> tokens::Kind
+    ensures { λ k. ⌜ k ≡ kindOf (slice (r .entry .at) to (now (r .entry .src))) ⌝ }
 {
-    tokens::begins(r.src, r.at, to, t)
+    tokens::kind_at(r.src, r.at, to)
 }
 
 // The same of the reply at a place.
@@ -60,8 +61,8 @@ pub fn word_at(s: &[u8], at: usize, to: usize) -> tokens::Word
     word(new(s, at), to)
 }
 
-pub fn begins_at(s: &[u8], at: usize, to: usize, t: &[u8]) -> bool
-    ensures { λ r. ⌜ r ≡ starts (now (t .entry)) (slice at to (now (s .entry))) ⌝ }
+pub fn kind_at(s: &[u8], at: usize, to: usize) -> tokens::Kind
+    ensures { λ r. ⌜ r ≡ kindOf (slice at to (now (s .entry))) ⌝ }
 {
-    begins(new(s, at), to, t)
+    kind(new(s, at), to)
 }

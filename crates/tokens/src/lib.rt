@@ -3,7 +3,8 @@ ghost use mathlib.Core.Path.{_≡_};
 ghost use Prim.Native.Nat.{_+_, _-_, _≤_};
 ghost use lib.ListN.{length, take};
 ghost use lib.Seq.{slice};
-ghost use Rattle.lists.specs.Pieces.{upTo, starts};
+ghost use Rattle.lists.specs.Pieces.{upTo, starts, is};
+ghost use Rattle.tokens.specs.Kinds.{kindOf};
 ghost use Rattle.tokens.specs.Numbers.{front, decimal, numbered as numberedToken, unsigned as unsignedToken, wordAt};
 
 // A word between spaces.
@@ -14,6 +15,15 @@ pub enum Token {
     Zero,
     // Number x + 1 with its sign, true without `-`, and whether its digits end the word.
     Number(bool, usize, bool),
+}
+
+// A line by how it begins, or by what it is.
+pub enum Kind {
+    Comment,
+    Satisfiable,
+    Unsatisfiable,
+    Values,
+    Other,
 }
 
 // A word, and where it ends: at a space, or with its line.
@@ -30,7 +40,7 @@ fn end(s: &[u8], to: usize) -> usize
 }
 
 // Where the first k stands, or where the part ends.
-pub fn find(s: &[u8], k: u8, from: usize, to: usize) -> usize
+fn find(s: &[u8], k: u8, from: usize, to: usize) -> usize
     ensures { λ r. ⌜ r ≡ from + length (upTo k (slice from to (now (s .entry)))) ⌝ }
 {
     let e = end(s, to);
@@ -72,7 +82,7 @@ pub fn find_far(s: &[u8], k: u8, from: usize, to: usize) -> usize
 }
 
 // The part begins with t.
-pub fn begins(s: &[u8], from: usize, to: usize, t: &[u8]) -> bool
+fn begins(s: &[u8], from: usize, to: usize, t: &[u8]) -> bool
     ensures { λ r. ⌜ r ≡ starts (now (t .entry)) (slice from to (now (s .entry))) ⌝ }
 {
     let e = end(s, to);
@@ -89,6 +99,40 @@ pub fn begins(s: &[u8], from: usize, to: usize, t: &[u8]) -> bool
         i += 1;
     }
     true
+}
+
+// The part is t.
+fn is_part(s: &[u8], from: usize, to: usize, t: &[u8]) -> bool
+    requires { ⌜ (from ≤ to) × (to ≤ length (now s)) ⌝ }
+    ensures { λ r. ⌜ r ≡ is (now (t .entry)) (slice from to (now (s .entry))) ⌝ }
+{
+    if to - from != t.len() {
+        return false;
+    }
+    begins(s, from, to, t)
+}
+
+// The kind of the line that is this part.
+pub fn kind_at(s: &[u8], from: usize, to: usize) -> Kind
+    ensures { λ r. ⌜ r ≡ kindOf (slice from to (now (s .entry))) ⌝ }
+{
+    let e = end(s, to);
+    if e <= from {
+        return Kind::Other;
+    }
+    if begins(s, from, e, b"c") {
+        return Kind::Comment;
+    }
+    if is_part(s, from, e, b"s SATISFIABLE") {
+        return Kind::Satisfiable;
+    }
+    if is_part(s, from, e, b"s UNSATISFIABLE") {
+        return Kind::Unsatisfiable;
+    }
+    if begins(s, from, e, b"v ") {
+        return Kind::Values;
+    }
+    Kind::Other
 }
 
 // Where the digits at the front of a part end, and the number that they write.
