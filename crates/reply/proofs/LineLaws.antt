@@ -1,19 +1,16 @@
 -- Laws of numbers and lines: one for each way out of the code that reads them.
 use mathlib.Core.Path.{_≡_, refl, sym, ap, _∙_}
-use mathlib.Core.Bool.{Bool, true, false, _&&_, cond, false≢true}
+use mathlib.Core.Bool.{Bool, true, false, cond, false≢true}
 use mathlib.Core.List.{List, [], _∷_}
 use mathlib.Core.Logic.{⊎-elim}
 use Prim.Native.Nat.{ℕ, suc, _+_, _≤_, _<_}
 use native.Mathlib.Omega.{arith}
 use native.Mathlib.Numerals.{add-one}
-use native.Mathlib.Decide.{ℕ-discrete}
-use borrow.Author.Tests.{eq-eqb, ne-eqb, eqb-true, lt-ltb, le-ltb}
-use lib.Dec.{eqb}
+use borrow.Author.Tests.{eq-eqb, ne-eqb, lt-ltb, le-ltb}
 use lib.ListN.{length, take, drop, set}
 use lib.Seq.{slice, drop-drop, length-slice}
 use Rattle.lists.specs.Rows.{num}
 use Rattle.lists.specs.Pieces.{Pieces, last, piece, cut, upTo, starts, is}
-use Rattle.lists.proofs.Logic.{and-left, and-no}
 use Rattle.lists.proofs.PieceLaws.{part-take, take-upTo, up-within, cut-last, cut-piece, starts-length}
 use Rattle.tokens.specs.declared.Token.the-variants.{Number}
 use types.Run.{OneOf}
@@ -24,6 +21,7 @@ use Rattle.tokens.specs.declared.Kind.the-variants.{Comment, Satisfiable, Unsat
 use Rattle.tokens.specs.declared.Word.{Word}
 use Rattle.tokens.specs.Numbers.{token, wordAt}
 use Rattle.tokens.specs.Kinds.{kindOf}
+use Rattle.tokens.proofs.KindLaws.{other-start, other-line}
 use Rattle.reply.specs.declared.Numbers.{Numbers}
 use Rattle.reply.specs.declared.Numbers.the-variants.{Fault, More, Closed}
 use Rattle.reply.specs.Said.{mark, marks}
@@ -86,23 +84,6 @@ module _ (N : ℕ) (m : List ℕ) (s : List ℕ) (i to e : ℕ) (l : i ≤ to) (
   next-word p k = sym (rw k at (a-word p))
 
 -- ---- a line among those of `v`: a comment says nothing
-
--- `v ` is the beginning of no line of another kind
-other-start : (x : ℕ) (t p : List ℕ) → (x ≡ 118 → ⊥) → starts (118 ∷ 32 ∷ []) p ≡ true → starts (x ∷ t) p ≡ false
-unfolding starts
-other-start x t [] n h = refl
-other-start x t (b ∷ bs) n h = go (ℕ-discrete b x)
-  where
-    is : b ≡ 118
-    is = eqb-true b 118 (and-left _ _ h)
-
-    go : Dec (b ≡ x) → (eqb b x && starts t bs) ≡ false
-    go (yes e) = absurd (n (sym e ∙ is))
-    go (no e) = rw (ne-eqb b x e)
-
-other-line : (x : ℕ) (t p : List ℕ) → (x ≡ 118 → ⊥) → starts (118 ∷ 32 ∷ []) p ≡ true → is (x ∷ t) p ≡ false
-unfolding is
-other-line x t p n h = rw (other-start x t p n h) (and-no (eqb (length p) (length (x ∷ t))))
 
 abbrev values : Bool → Bool → Bool → Bool → Kind
 values a b c d = cond a Comment (cond b Satisfiable (cond c Unsatisfiable (cond d Values Other)))

@@ -112,13 +112,16 @@ fn is_part(s: &[u8], from: usize, to: usize, t: &[u8]) -> bool
     begins(s, from, to, t)
 }
 
-// The kind of the line that is this part.
+// The kind of the line that is this part. Most lines are values, so these are asked for first: they are of no other kind.
 pub fn kind_at(s: &[u8], from: usize, to: usize) -> Kind
     ensures { λ r. ⌜ r ≡ kindOf (slice from to (now (s .entry))) ⌝ }
 {
     let e = end(s, to);
     if e <= from {
         return Kind::Other;
+    }
+    if begins(s, from, e, b"v ") {
+        return Kind::Values;
     }
     if begins(s, from, e, b"c") {
         return Kind::Comment;
@@ -128,9 +131,6 @@ pub fn kind_at(s: &[u8], from: usize, to: usize) -> Kind
     }
     if is_part(s, from, e, b"s UNSATISFIABLE") {
         return Kind::Unsatisfiable;
-    }
-    if begins(s, from, e, b"v ") {
-        return Kind::Values;
     }
     Kind::Other
 }
