@@ -25,7 +25,7 @@ use Rattle.tokens.proofs.KindLaws.{other-start, other-line}
 use Rattle.reply.specs.declared.Numbers.{Numbers}
 use Rattle.reply.specs.declared.Numbers.the-variants.{Fault, More, Closed}
 use Rattle.reply.specs.Said.{mark, marks}
-use Rattle.reply.specs.Lines.{comment, satisfiable, unsatisfiable, Opened, stopped, begun, opening, Part, fault, more, closed, goes, halted, told, after, unended, sayIn, numbersIn, valueLineIn, valueLinesIn, closing}
+use Rattle.reply.specs.Lines.{comment, satisfiable, unsatisfiable, Opened, stopped, begun, opening, Part, fault, more, goes, halted, told, after, unended, sayIn, numbersIn, valueLineIn, valueLinesIn, closing}
 use Rattle.reply.specs.Answers.{partOf}
 
 -- ---- one number

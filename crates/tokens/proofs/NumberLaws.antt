@@ -1,6 +1,6 @@
 -- Laws of one number: its digits, what they write, and one law for each way out of the code that reads it.
 use mathlib.Core.Path.{_≡_, refl, sym, ap, _∙_}
-use mathlib.Core.Bool.{Bool, true, false, not, _&&_, _||_, cond}
+use mathlib.Core.Bool.{Bool, true, false, not, _||_, cond}
 use mathlib.Core.List.{List, [], _∷_}
 use Prim.Native.Nat.{ℕ, zero, suc, _+_, _*_, _-_, _≤_, _<_, _^_}
 use native.Mathlib.Omega.{arith}
@@ -17,8 +17,7 @@ use Rattle.lists.proofs.Logic.{and-no}
 use Rattle.lists.proofs.TestLaws.{is-within, within-is, within-under, within-over}
 use Rattle.lists.specs.Pieces.{upTo}
 use Rattle.lists.proofs.PieceLaws.{part, part-none, length-upTo}
-use Rattle.tokens.specs.declared.Token.{Token}
-use Rattle.tokens.specs.declared.Token.the-variants.{Bad, Zero, Number}
+use Rattle.tokens.specs.declared.Token.the-variants.{Bad, Number}
 use Rattle.tokens.specs.declared.Word.{Word}
 use Rattle.tokens.specs.Numbers.{front, decimal, allowed, numbered, unsigned, token, wordAt}
 

@@ -1,5 +1,5 @@
 -- The loop keeps what is left, as in `find`, over four bytes; `find` looks through the last of them.
-use mathlib.Core.Path.{_≡_, _∙_}
+use mathlib.Core.Path.{_≡_}
 use Prim.Native.Nat.{_+_, _-_, _≤_}
 use native.Mathlib.Omega.{arith}
 use borrow.Author.Needs.{needs}
