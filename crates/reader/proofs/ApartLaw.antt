@@ -9,10 +9,13 @@ use mir.Syntax.{Name, Fn, Ty, local, valueLocal, imm, named, erased, w8, w64, ty
 use mir.Val.{Val, WT, hasTy, vint}
 use base.Logic.{SProp, ent, sep, emp, via, fst∗, snd∗, exE, id⊢}
 use base.Fml.{Lft, Share, Fml, ftrue, flft}
-use prog.Wp.{Heap, Calls, Loops, WpFn, Tables}
+use prog.Model.{Model}
+use prog.Routine.{Routine, Env}
+use prog.Wp.{Heap, Calls, Loops, WpFn, Tables, Closed}
 use ghost.Atoms.{Atoms, sem}
 use contract.Lifetimes.{Lfts}
 use contract.Monad.{fact}
+use contract.Running.{Running, GhostRules, givenOf, tables, tablesOf}
 use types.Kit.{Given, ‵, raw, _⊛_, given, ⋆, some, later, _$_, _∵_, !, qed, by, move, drop, use1, use2, split, join, learn, pick, fsplit, fjoin, suffices, frame, await, done}
 use types.Part.{whole, sub, look-in}
 use types.Run.{look, init, forget, stop, fld, from, load, of-opd, and-then, no-more, assigns, land, returns, enter, alloc1, alloc0, params1, pass1, pass0, free1, free0}
@@ -33,13 +36,14 @@ use denote.Triple.Statement.{Contract, Triple}
 use denote.Triple.Call.{calls-at}
 use denote.Triple.Entry.{Vals, onEntry}
 use denote.Triple.Spec.{Meets, tripleOf}
+use denote.Triple.Table.{entered, cited}
 use denote.Triple.Walked.{says, Stays, stay-none, walkOf, goes-none, ends-at, walked, walk-meets}
 use denote.Exit.{yes}
 use denote.Triple.Clauses.{ensured, lasts, closing}
 use Rattle.reader.specs.declared.Reader.{Reader}
 use Rattle.reader.proofs.Reader as T
 use Rattle.reader.proofs.Reader.Laws as T′
-use Rattle.reader.proofs.Shapes.{OfReader, OfText, reader-says, text-says}
+use Rattle.reader.proofs.Shapes.{Result, OfReader, OfText, reader-says, text-says}
 
 -- f's code, by the machine's type of R and by g
 abbrev pub apart : Ty → Name → Fn
@@ -148,9 +152,23 @@ module _ (R : RattleType) (τ : Ty) (typed : (x : R .Denot) (u : Val) → Is R x
             move ! (11 ∷ 12 ∷ []) $ free1 ! $ move ! (9 ∷ 10 ∷ []) $ free1 ! $ move ! (7 ∷ 8 ∷ []) $ free1 ! $ move ! (5 ∷ 6 ∷ []) $ free1 ! $ move ! (3 ∷ 4 ∷ []) $ free1 ! $
             free0 ! $ by ! (exits x u e))))))))))
 
-    pub apart-meets : (W : Given 𝓤 H A) (𝓣 : Tables 𝓤 H) → Triple 𝓤 (𝓣 .C g) Callee
+    meets : (W : Given 𝓤 H A) (𝓣 : Tables 𝓤 H) → Triple 𝓤 (𝓣 .C g) Callee
         → Meets 𝓤 H A (OfReader R .signature) (WpFn 𝓤 H (𝓣 .C) (𝓣 .Λ) (apart τ g)) (closing 𝓤 H A (OfReader R) (reader-says R 𝓤 found))
-    apart-meets W 𝓣 known =
+    meets W 𝓣 known =
         walk-meets 𝓤 H A (OfReader R) stayed W (goes-none 𝓤 H A W 1 B yes (λ κs x f. refl), (goes-none 𝓤 H A W 1 (λ _. usize) yes (λ κs x f. refl), tt)) (reader-says R 𝓤 found) (WpFn 𝓤 H (𝓣 .C) (𝓣 .Λ) (apart τ g)) (WpFn-mono 𝓤 H (W .laws) 𝓣 (apart τ g))
         (walked 𝓤 H A (OfReader R) stayed (reader-says R 𝓤 found) (WpFn 𝓤 H (𝓣 .C) (𝓣 .Λ) (apart τ g)) (λ κs. (LL.vals (T.the-type (namedLft 1 0 tt κs)) (T′.the-laws (namedLft 1 0 tt κs)), (uint-vals w64, tt))) (λ κs. (LL.tells (T.the-type (namedLft 1 0 tt κs)) (T′.the-laws (namedLft 1 0 tt κs)), (uint-tells w64, tt)))
         (λ κs qs bounds a _ are. via 𝓤 _ (fst∗ 𝓤 _ (emp 𝓤)) (walk W (κs .0) (qs .0) (a .0) (a .1 .0) (are .1 .0 .1) (𝓣 .C) (𝓣 .Λ) (fmOf 𝓤 H (W .laws) 𝓣) known (LL.lawful (T.the-type (namedLft 1 0 tt κs)) (T′.the-laws (namedLft 1 0 tt κs)) 𝓤 H A W .typed (a .0) _ (are .0) .0))))
+
+-- where key is such a function over g in env, and g meets the contract of `found`
+module _ {M : Type 1} (𝓤 : URA M) (H : Heap 𝓤) (𝓜 : Model 𝓤 H) (𝓖 : GhostRules 𝓤 H) (𝓡 : Running 𝓤 H 𝓜) where
+  pub apart-meets : (R : Result 𝓤 H (𝓖 .A)) (found : List ℕ → ℕ → ℕ → R .row .Denot) (env : Env) (key g : Name) (called : Routine) → env g ≡ called
+      → Closed 𝓤 H (tables 𝓤 H 𝓜 𝓡 env .C) (tables 𝓤 H 𝓜 𝓡 env .Λ) key (apart (R .ty) g)
+      → Meets 𝓤 H (𝓖 .A) (OfText (R .row) .signature) (𝓡 .run called) (closing 𝓤 H (𝓖 .A) (OfText (R .row)) (text-says (R .row) 𝓤 found))
+      → Meets 𝓤 H (𝓖 .A) (OfReader (R .row) .signature) (𝓡 .run (env key)) (closing 𝓤 H (𝓖 .A) (OfReader (R .row)) (reader-says (R .row) 𝓤 found))
+  unfolding tablesOf
+  apart-meets R found env key g called calls unfolded met =
+      let A = 𝓖 .A in
+      let here = tables 𝓤 H 𝓜 𝓡 env in
+      entered 𝓤 H (tripleOf 𝓤 H A (OfReader (R .row) .signature) (closing 𝓤 H A (OfReader (R .row)) (reader-says (R .row) 𝓤 found))) (here .C) (here .Λ) key (apart (R .ty) g) unfolded
+      (meets (R .row) (R .ty) (R .typed) found g 𝓤 H A (givenOf 𝓤 H 𝓜 𝓖) (tablesOf 𝓤 H 𝓜 here)
+      (cited 𝓤 H (Callee (R .row) (R .ty) (R .typed) found g 𝓤 H A) 𝓜 𝓡 env g called calls met))

@@ -10,11 +10,13 @@ use mir.Val.{Val, WT, hasTy, vint}
 use base.Logic.{SProp, ent, sep, emp, via, fst∗, snd∗, exE, id⊢}
 use base.Fml.{Lft, Share, Fml, ftrue, flft}
 use prog.Memory.{Memory}
-use prog.Routine.{Routine}
-use prog.Wp.{Heap, Calls, Loops, WpFn, Tables}
+use prog.Model.{Model}
+use prog.Routine.{Routine, Env}
+use prog.Wp.{Heap, Calls, Loops, WpFn, Tables, Closed}
 use ghost.Atoms.{Atoms, sem}
 use contract.Lifetimes.{Lfts}
 use contract.Monad.{Fun, fact}
+use contract.Running.{Running, GhostRules, givenOf, tables, tablesOf}
 use types.Kit.{Given, ‵, raw, _⊛_, ⋆, some, later, _$_, _∵_, !, qed, by, move, drop, use1, use2, split, join, pick, fsplit, fjoin, suffices, frame, await, done}
 use types.Run.{look, init, forget, stop, from, load, and-then, no-more, land, returns, enter, alloc1, alloc0, params1, pass1, pass0, free1, free0}
 use sound.WpLaws.{FmC, fmOf, WpFn-mono}
@@ -31,15 +33,18 @@ use denote.Triple.Statement.{Contract, Triple}
 use denote.Triple.Call.{calls-at}
 use denote.Triple.Entry.{onEntry}
 use denote.Triple.Spec.{Meets, tripleOf}
+use denote.Triple.Table.{entered, cited}
 use denote.Triple.Walked.{says, Stays, stay-none-slice, stay-none, walkOf, goes-none-slice, goes-none, ends-at, walked, walk-meets}
 use denote.Exit.{yes}
 use denote.Triple.Clauses.{ensured, lasts, closing}
 use Rattle.reader.specs.declared.Reader.{Reader}
 use Rattle.reader.proofs.Reader as T
 use Rattle.reader.proofs.Reader.Laws as T′
-use Rattle.reader.proofs.Shapes.{OfReader, OfText, reader-says, text-says}
+use Rattle.reader.proofs.Shapes.{Result, OfReader, OfText, reader-says, text-says}
 use Rattle.reader.proofs.new as new
+use Rattle.reader.proofs.new.Symbol as new-def
 use Rattle.reader.proofs.new.Symbol.{name as #reader·new}
+use Rattle.reader.proofs.new.Met as new-thm
 
 -- f_at's code, by the machine's type of R and by f
 abbrev pub made : Ty → Name → Fn
@@ -153,9 +158,25 @@ module _ (R : RattleType) (τ : Ty) (typed : (x : R .Denot) (u : Val) → Is R x
             free0 ! $
             by ! (exits x u′ (e′ ∙ (ap (λ (y : RefT (List ℕ)). found (now y) (r .at) m) (e .0) ∙ ap (λ (k : ℕ). found (now s) k m) (e .1)))))))))))))))))
 
-    pub made-meets : (W : Given 𝓤 H A) (𝓣 : Tables 𝓤 H) → Triple 𝓤 (𝓣 .C #reader·new) New → Triple 𝓤 (𝓣 .C f) Asked
+    meets : (W : Given 𝓤 H A) (𝓣 : Tables 𝓤 H) → Triple 𝓤 (𝓣 .C #reader·new) New → Triple 𝓤 (𝓣 .C f) Asked
         → Meets 𝓤 H A (OfText R .signature) (WpFn 𝓤 H (𝓣 .C) (𝓣 .Λ) (made τ f)) (closing 𝓤 H A (OfText R) (text-says R 𝓤 found))
-    made-meets W 𝓣 known-new known =
+    meets W 𝓣 known-new known =
         walk-meets 𝓤 H A (OfText R) stayed W (goes-none-slice 𝓤 H A W 1 (0 ∷ []) tt (plain (λ _. u8)) yes, (goes-none 𝓤 H A W 1 (λ _. usize) yes (λ κs x f. refl), (goes-none 𝓤 H A W 1 (λ _. usize) yes (λ κs x f. refl), tt))) (text-says R 𝓤 found) (WpFn 𝓤 H (𝓣 .C) (𝓣 .Λ) (made τ f)) (WpFn-mono 𝓤 H (W .laws) 𝓣 (made τ f))
         (walked 𝓤 H A (OfText R) stayed (text-says R 𝓤 found) (WpFn 𝓤 H (𝓣 .C) (𝓣 .Λ) (made τ f)) (λ κs. (slice-vals, (uint-vals w64, (uint-vals w64, tt)))) (λ κs. (shr-slice-tells (named 0) (κs .0) u8, (uint-tells w64, (uint-tells w64, tt))))
         (λ κs qs bounds a _ are. via 𝓤 _ (fst∗ 𝓤 _ (emp 𝓤)) (walk W (κs .0) (qs .0) (a .0) (a .1 .0) (are .1 .0 .1) (a .1 .1 .0) (are .1 .1 .0 .1) (𝓣 .C) (𝓣 .Λ) (fmOf 𝓤 H (W .laws) 𝓣) known-new known (are .0))))
+
+-- where key is such a function over f in env, and f meets the contract of `found`
+module _ {M : Type 1} (𝓤 : URA M) (H : Heap 𝓤) (𝓜 : Model 𝓤 H) (𝓖 : GhostRules 𝓤 H) (𝓡 : Running 𝓤 H 𝓜) where
+  pub made-meets : (R : Result 𝓤 H (𝓖 .A)) (found : List ℕ → ℕ → ℕ → R .row .Denot) (env : Env) (key f : Name) (asked : Routine)
+      → env #reader·new ≡ new-def.routine → env f ≡ asked
+      → Closed 𝓤 H (tables 𝓤 H 𝓜 𝓡 env .C) (tables 𝓤 H 𝓜 𝓡 env .Λ) key (made (R .ty) f)
+      → Meets 𝓤 H (𝓖 .A) (OfReader (R .row) .signature) (𝓡 .run asked) (closing 𝓤 H (𝓖 .A) (OfReader (R .row)) (reader-says (R .row) 𝓤 found))
+      → Meets 𝓤 H (𝓖 .A) (OfText (R .row) .signature) (𝓡 .run (env key)) (closing 𝓤 H (𝓖 .A) (OfText (R .row)) (text-says (R .row) 𝓤 found))
+  unfolding tablesOf
+  made-meets R found env key f asked makes asks unfolded met =
+      let A = 𝓖 .A in
+      let here = tables 𝓤 H 𝓜 𝓡 env in
+      entered 𝓤 H (tripleOf 𝓤 H A (OfText (R .row) .signature) (closing 𝓤 H A (OfText (R .row)) (text-says (R .row) 𝓤 found))) (here .C) (here .Λ) key (made (R .ty) f) unfolded
+      (meets (R .row) (R .ty) (R .typed) found f 𝓤 H A (𝓜 .mem) (𝓡 .run) (givenOf 𝓤 H 𝓜 𝓖) (tablesOf 𝓤 H 𝓜 here)
+      (cited 𝓤 H (New (R .row) (R .ty) (R .typed) found f 𝓤 H A (𝓜 .mem) (𝓡 .run)) 𝓜 𝓡 env #reader·new new-def.routine makes (new-thm.met 𝓤 H 𝓜 𝓖 𝓡))
+      (cited 𝓤 H (Asked (R .row) (R .ty) (R .typed) found f 𝓤 H A (𝓜 .mem) (𝓡 .run)) 𝓜 𝓡 env f asked asks met))

@@ -4,8 +4,9 @@ ghost use mathlib.Core.Path.{_≡_};
 ghost use Prim.Native.Nat.{_+_};
 ghost use lib.ListN.{length};
 ghost use lib.Seq.{slice};
-ghost use Rattle.lists.specs.Pieces.{upTo, starts};
-ghost use Rattle.tokens.specs.Numbers.{token as tokenOf};
+ghost use Rattle.lists.specs.Pieces.{upTo};
+ghost use Rattle.tokens.specs.Numbers.{wordAt};
+ghost use Rattle.tokens.specs.Kinds.{kindOf};
 
 // The reply and the place in it.
 pub struct Reader<'a> {
@@ -14,17 +15,10 @@ pub struct Reader<'a> {
 }
 
 // What `line` calls.
-fn line_from(s: &[u8], at: usize) -> usize
-    ensures { λ r. ⌜ r ≡ at + length (upTo 10 (slice at (length (now (s .entry))) (now (s .entry)))) ⌝ }
+fn line_from(s: &[u8], at: usize, to: usize) -> usize
+    ensures { λ r. ⌜ r ≡ at + length (upTo 10 (slice at to (now (s .entry)))) ⌝ }
 {
-    tokens::find(s, 10, at, s.len())
-}
-
-// What `word` calls.
-fn word_from(s: &[u8], at: usize, to: usize) -> usize
-    ensures { λ r. ⌜ r ≡ at + length (upTo 32 (slice at to (now (s .entry)))) ⌝ }
-{
-    tokens::find(s, 32, at, to)
+    tokens::find_far(s, 10, at, to)
 }
 
 fn new<'a>(src: &'a [u8], at: usize) -> Reader<'a>
@@ -33,55 +27,42 @@ fn new<'a>(src: &'a [u8], at: usize) -> Reader<'a>
     Reader { src, at }
 }
 
-// Where the line that starts here ends: at its LF, or with the text.
-fn line<'a>(r: Reader<'a>) -> usize
-    ensures { λ e. ⌜ e ≡ r .entry .at + length (upTo 10 (slice (r .entry .at) (length (now (r .entry .src))) (now (r .entry .src)))) ⌝ }
+// Where the line that starts here ends: at its LF, or with the text, which ends at to.
+fn line<'a>(r: Reader<'a>, to: usize) -> usize
+    ensures { λ e. ⌜ e ≡ r .entry .at + length (upTo 10 (slice (r .entry .at) to (now (r .entry .src)))) ⌝ }
 {
-    line_from(r.src, r.at)
+    line_from(r.src, r.at, to)
 }
 
-// Where the word that starts here ends: at a space, or with the line, which ends at to.
-fn word<'a>(r: Reader<'a>, to: usize) -> usize
-    ensures { λ e. ⌜ e ≡ r .entry .at + length (upTo 32 (slice (r .entry .at) to (now (r .entry .src)))) ⌝ }
+// The word that starts here, in a line that ends at to.
+fn word<'a>(r: Reader<'a>, to: usize) -> tokens::Word
+    ensures { λ w. ⌜ w ≡ wordAt (now (r .entry .src)) (r .entry .at) to ⌝ }
 {
-    word_from(r.src, r.at, to)
+    tokens::word_at(r.src, r.at, to)
 }
 
-// The part from here to to begins with t.
-fn begins<'a>(r: Reader<'a>, to: usize, t: &[u8]) -> bool
-    ensures { λ b. ⌜ b ≡ starts (now (t .entry)) (slice (r .entry .at) to (now (r .entry .src))) ⌝ }
+// The kind of the line from here to to.
+fn kind<'a>(r: Reader<'a>, to: usize) -> tokens::Kind
+    ensures { λ k. ⌜ k ≡ kindOf (slice (r .entry .at) to (now (r .entry .src))) ⌝ }
 {
-    tokens::begins(r.src, r.at, to, t)
-}
-
-// The word from here to to.
-fn token<'a>(r: Reader<'a>, to: usize) -> tokens::Token
-    ensures { λ w. ⌜ w ≡ tokenOf (slice (r .entry .at) to (now (r .entry .src))) ⌝ }
-{
-    tokens::token_at(r.src, r.at, to)
+    tokens::kind_at(r.src, r.at, to)
 }
 
 // The same of the reply at a place.
-pub fn line_at(s: &[u8], at: usize) -> usize
-    ensures { λ r. ⌜ r ≡ at + length (upTo 10 (slice at (length (now (s .entry))) (now (s .entry)))) ⌝ }
+pub fn line_at(s: &[u8], at: usize, to: usize) -> usize
+    ensures { λ r. ⌜ r ≡ at + length (upTo 10 (slice at to (now (s .entry)))) ⌝ }
 {
-    line(new(s, at))
+    line(new(s, at), to)
 }
 
-pub fn word_at(s: &[u8], at: usize, to: usize) -> usize
-    ensures { λ r. ⌜ r ≡ at + length (upTo 32 (slice at to (now (s .entry)))) ⌝ }
+pub fn word_at(s: &[u8], at: usize, to: usize) -> tokens::Word
+    ensures { λ r. ⌜ r ≡ wordAt (now (s .entry)) at to ⌝ }
 {
     word(new(s, at), to)
 }
 
-pub fn begins_at(s: &[u8], at: usize, to: usize, t: &[u8]) -> bool
-    ensures { λ r. ⌜ r ≡ starts (now (t .entry)) (slice at to (now (s .entry))) ⌝ }
+pub fn kind_at(s: &[u8], at: usize, to: usize) -> tokens::Kind
+    ensures { λ r. ⌜ r ≡ kindOf (slice at to (now (s .entry))) ⌝ }
 {
-    begins(new(s, at), to, t)
-}
-
-pub fn token_at(s: &[u8], at: usize, to: usize) -> tokens::Token
-    ensures { λ r. ⌜ r ≡ tokenOf (slice at to (now (s .entry))) ⌝ }
-{
-    token(new(s, at), to)
+    kind(new(s, at), to)
 }

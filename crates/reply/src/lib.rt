@@ -1,13 +1,14 @@
 // Checking a reply: its lines and numbers are read by a reader, its values are marked in the working buffer.
 ghost use mathlib.Core.Path.{_≡_};
-ghost use mathlib.Core.Bool.{true};
+ghost use mathlib.Core.Bool.{true, cond};
 ghost use Prim.Native.Nat.{_+_, _≤_};
 ghost use lib.ListN.{length, drop};
 ghost use lib.Seq.{slice};
 ghost use Rattle.lists.specs.Rows.{num};
-ghost use Rattle.lists.specs.Pieces.{cut, upTo, is};
+ghost use Rattle.lists.specs.Pieces.{cut, upTo};
+ghost use Rattle.tokens.specs.Numbers.{token};
 ghost use Rattle.reply.specs.Said.{marks};
-ghost use Rattle.reply.specs.Lines.{comment, opening, unended, sayIn, numbersIn, valueLineIn, valueLinesIn, closing};
+ghost use Rattle.reply.specs.Lines.{comment, more, opening, unended, sayIn, numbersIn, valueLineIn, valueLinesIn, closing};
 ghost use Rattle.reply.specs.Reply.{heardIn, missing, valuesRead};
 ghost use Rattle.job.specs.Fitness.{fit};
 ghost use Rattle.job.specs.Satisfaction.{falseClause};
@@ -16,7 +17,9 @@ ghost use Rattle.reply.specs.Answers.{outcome, settled, partOf, openedOf
 use cnf::Evaluation;
 use job::Job;
 use job::Refusal;
+use tokens::Kind;
 use tokens::Token;
+use tokens::Word;
 use totals::Count;
 
 // The longest reply.
@@ -51,32 +54,15 @@ fn line_end(s: &[u8], at: usize) -> usize
     requires { ⌜ at ≤ length (now s) ⌝ }
     ensures { λ r. ⌜ (r ≡ at + length (upTo 10 (slice at (length (now (s .entry))) (now (s .entry))))) × (at ≤ r) × (r ≤ length (now (s .entry))) ⌝ }
 {
-    reader::line_at(s, at)
+    reader::line_at(s, at, s.len())
 }
 
-// Where the word that starts at at ends: at a space, or with the line, which ends at to.
-fn word_end(s: &[u8], at: usize, to: usize) -> usize
+// The word that starts at at, in a line that ends at to.
+fn word_in(s: &[u8], at: usize, to: usize) -> Word
     requires { ⌜ (at ≤ to) × (to ≤ length (now s)) ⌝ }
-    ensures { λ r. ⌜ (r ≡ at + length (upTo 32 (slice at to (now (s .entry))))) × (at ≤ r) × (r ≤ to) ⌝ }
+    ensures { λ r. ⌜ (r .token ≡ token (slice at (r .end) (now (s .entry)))) × (r .end ≡ at + length (upTo 32 (slice at to (now (s .entry))))) × (at ≤ r .end) × (r .end ≤ to) ⌝ }
 {
     reader::word_at(s, at, to)
-}
-
-fn is_comment(s: &[u8], from: usize, to: usize) -> bool
-    ensures { λ r. ⌜ r ≡ comment (slice from to (now (s .entry))) ⌝ }
-{
-    reader::begins_at(s, from, to, b"c")
-}
-
-// The line is t.
-fn is_line(s: &[u8], from: usize, to: usize, t: &[u8]) -> bool
-    requires { ⌜ (from ≤ to) × (to ≤ length (now s)) ⌝ }
-    ensures { λ r. ⌜ r ≡ is (now (t .entry)) (slice from to (now (s .entry))) ⌝ }
-{
-    if to - from != t.len() {
-        return false;
-    }
-    reader::begins_at(s, from, to, t)
 }
 
 // Up to the line behind `s SATISFIABLE`.
@@ -90,14 +76,18 @@ fn read_opening(s: &[u8]) -> Place
         if e == s.len() {
             return Place::Halt(61, line);
         }
-        if !is_comment(s, at, e) {
-            if is_line(s, at, e, b"s SATISFIABLE") {
+        let k = reader::kind_at(s, at, e);
+        match k {
+            Kind::Comment => {}
+            Kind::Satisfiable => {
                 return Place::At(e + 1, line + 1);
             }
-            if is_line(s, at, e, b"s UNSATISFIABLE") {
+            Kind::Unsatisfiable => {
                 return Place::Halt(66, line);
             }
-            return Place::Halt(61, line);
+            _ => {
+                return Place::Halt(61, line);
+            }
         }
         at = e + 1;
         line += 1;
@@ -139,8 +129,9 @@ fn read_numbers(s: &[u8], from: usize, to: usize, work: &mut [u8], n: usize) -> 
 {
     let mut at = from;
     loop {
-        let e = word_end(s, at, to);
-        let t = reader::token_at(s, at, e);
+        let w = word_in(s, at, to);
+        let e = w.end;
+        let t = w.token;
         let r = mark(t, &mut *work, n);
         if e == to {
             return r;
@@ -158,15 +149,16 @@ fn read_numbers(s: &[u8], from: usize, to: usize, work: &mut [u8], n: usize) -> 
     }
 }
 
-// A line of `v` and numbers.
+// A line of `v` and numbers, or a comment, which says nothing.
 fn read_value_line(s: &[u8], from: usize, to: usize, work: &mut [u8], n: usize) -> Numbers
     requires { ⌜ (from ≤ to) × (to ≤ length (now s)) × (n ≤ length (now work)) ⌝ }
-    ensures { λ r. ⌜ partOf r (now (work .exit)) ≡ valueLineIn marks n (now (work .entry)) (slice from to (now (s .entry))) ⌝ }
+    ensures { λ r. ⌜ partOf r (now (work .exit)) ≡ cond (comment (slice from to (now (s .entry)))) (more (now (work .entry))) (valueLineIn marks n (now (work .entry)) (slice from to (now (s .entry)))) ⌝ }
 {
-    if reader::begins_at(s, from, to, b"v ") {
-        read_numbers(s, from + 2, to, work, n)
-    } else {
-        Numbers::Fault(61)
+    let k = reader::kind_at(s, from, to);
+    match k {
+        Kind::Comment => Numbers::More,
+        Kind::Values => read_numbers(s, from + 2, to, work, n),
+        _ => Numbers::Fault(61),
     }
 }
 
@@ -195,17 +187,15 @@ fn read_values(s: &[u8], from: usize, first: usize, work: &mut [u8], n: usize) -
         if e == s.len() {
             return read_unended(s, at, line, work, n);
         }
-        if !is_comment(s, at, e) {
-            let r = read_value_line(s, at, e, &mut *work, n);
-            match r {
-                Numbers::Fault(c) => {
-                    return Place::Halt(c, line);
-                }
-                Numbers::Closed => {
-                    return Place::At(e + 1, line + 1);
-                }
-                Numbers::More => {}
+        let r = read_value_line(s, at, e, &mut *work, n);
+        match r {
+            Numbers::Fault(c) => {
+                return Place::Halt(c, line);
             }
+            Numbers::Closed => {
+                return Place::At(e + 1, line + 1);
+            }
+            Numbers::More => {}
         }
         at = e + 1;
         line += 1;
@@ -227,9 +217,10 @@ fn read_closing(s: &[u8], from: usize, first: usize) -> usize
             }
             return line;
         }
-        if !is_comment(s, at, e) {
+        let k = reader::kind_at(s, at, e);
+        let Kind::Comment = k else {
             return line;
-        }
+        };
         at = e + 1;
         line += 1;
     }

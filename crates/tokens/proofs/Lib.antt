@@ -1,2 +1,4 @@
--- The laws of one number of a reply.
+-- The laws of a search, of one number of a reply, and of the kind of a line.
+pub mod FindLaws
 pub mod NumberLaws
+pub mod KindLaws

@@ -5,9 +5,12 @@ use Prim.Native.Nat.{ℕ, zero, suc, _+_, _*_, _-_}
 use lib.Dec.{eqb}
 use lib.ListN.{length}
 use Rattle.lists.specs.Rows.{num}
+use lib.Seq.{slice}
 use Rattle.lists.specs.Tests.{within}
+use Rattle.lists.specs.Pieces.{upTo}
 use Rattle.tokens.specs.declared.Token.{Token}
 use Rattle.tokens.specs.declared.Token.the-variants.{Bad, Zero, Number}
+use Rattle.tokens.specs.declared.Word.{Word}
 
 -- the digits at the front of a word: 'the number ends before the x' (reading 17)
 unfoldable pub front : List ℕ → List ℕ
@@ -35,3 +38,7 @@ unsigned on w = cond (allowed (front w)) (numbered on (decimal 0 (front w)) (eqb
 unfoldable pub token : List ℕ → Token
 token [] = Bad
 token (b ∷ bs) = cond (eqb b 45) (unsigned false bs) (unsigned true (b ∷ bs))
+
+-- the word at from in a line that ends at to: it goes up to a space, or to the line's end
+unfoldable pub wordAt : List ℕ → ℕ → ℕ → Word
+wordAt s from to = let w = upTo 32 (slice from to s) in record { token = token w; end = from + length w }

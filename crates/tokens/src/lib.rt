@@ -3,8 +3,9 @@ ghost use mathlib.Core.Path.{_≡_};
 ghost use Prim.Native.Nat.{_+_, _-_, _≤_};
 ghost use lib.ListN.{length, take};
 ghost use lib.Seq.{slice};
-ghost use Rattle.lists.specs.Pieces.{upTo, starts};
-ghost use Rattle.tokens.specs.Numbers.{front, decimal, numbered as numberedToken, unsigned as unsignedToken, token};
+ghost use Rattle.lists.specs.Pieces.{upTo, starts, is};
+ghost use Rattle.tokens.specs.Kinds.{kindOf};
+ghost use Rattle.tokens.specs.Numbers.{front, decimal, numbered as numberedToken, unsigned as unsignedToken, wordAt};
 
 // A word between spaces.
 pub enum Token {
@@ -16,6 +17,21 @@ pub enum Token {
     Number(bool, usize, bool),
 }
 
+// A line by how it begins, or by what it is.
+pub enum Kind {
+    Comment,
+    Satisfiable,
+    Unsatisfiable,
+    Values,
+    Other,
+}
+
+// A word, and where it ends: at a space, or with its line.
+pub struct Word {
+    pub token: Token,
+    pub end: usize,
+}
+
 // Where a part that is to end at to ends: there, or at the text's end.
 fn end(s: &[u8], to: usize) -> usize
     ensures { λ r. ⌜ (r ≤ length (now (s .entry))) × (take r (now (s .entry)) ≡ take to (now (s .entry))) ⌝ }
@@ -24,7 +40,7 @@ fn end(s: &[u8], to: usize) -> usize
 }
 
 // Where the first k stands, or where the part ends.
-pub fn find(s: &[u8], k: u8, from: usize, to: usize) -> usize
+fn find(s: &[u8], k: u8, from: usize, to: usize) -> usize
     ensures { λ r. ⌜ r ≡ from + length (upTo k (slice from to (now (s .entry)))) ⌝ }
 {
     let e = end(s, to);
@@ -38,8 +54,35 @@ pub fn find(s: &[u8], k: u8, from: usize, to: usize) -> usize
     i
 }
 
+// The same, four bytes a turn: quicker where k stands far on.
+pub fn find_far(s: &[u8], k: u8, from: usize, to: usize) -> usize
+    ensures { λ r. ⌜ r ≡ from + length (upTo k (slice from to (now (s .entry)))) ⌝ }
+{
+    let e = end(s, to);
+    if e < 4 {
+        return find(s, k, from, to);
+    }
+    let mut i = from;
+    while i <= e - 4 {
+        if s[i] == k {
+            return i;
+        }
+        if s[i + 1] == k {
+            return i + 1;
+        }
+        if s[i + 2] == k {
+            return i + 2;
+        }
+        if s[i + 3] == k {
+            return i + 3;
+        }
+        i += 4;
+    }
+    find(s, k, i, e)
+}
+
 // The part begins with t.
-pub fn begins(s: &[u8], from: usize, to: usize, t: &[u8]) -> bool
+fn begins(s: &[u8], from: usize, to: usize, t: &[u8]) -> bool
     ensures { λ r. ⌜ r ≡ starts (now (t .entry)) (slice from to (now (s .entry))) ⌝ }
 {
     let e = end(s, to);
@@ -56,6 +99,40 @@ pub fn begins(s: &[u8], from: usize, to: usize, t: &[u8]) -> bool
         i += 1;
     }
     true
+}
+
+// The part is t.
+fn is_part(s: &[u8], from: usize, to: usize, t: &[u8]) -> bool
+    requires { ⌜ (from ≤ to) × (to ≤ length (now s)) ⌝ }
+    ensures { λ r. ⌜ r ≡ is (now (t .entry)) (slice from to (now (s .entry))) ⌝ }
+{
+    if to - from != t.len() {
+        return false;
+    }
+    begins(s, from, to, t)
+}
+
+// The kind of the line that is this part. Most lines are values, so these are asked for first: they are of no other kind.
+pub fn kind_at(s: &[u8], from: usize, to: usize) -> Kind
+    ensures { λ r. ⌜ r ≡ kindOf (slice from to (now (s .entry))) ⌝ }
+{
+    let e = end(s, to);
+    if e <= from {
+        return Kind::Other;
+    }
+    if begins(s, from, e, b"v ") {
+        return Kind::Values;
+    }
+    if begins(s, from, e, b"c") {
+        return Kind::Comment;
+    }
+    if is_part(s, from, e, b"s SATISFIABLE") {
+        return Kind::Satisfiable;
+    }
+    if is_part(s, from, e, b"s UNSATISFIABLE") {
+        return Kind::Unsatisfiable;
+    }
+    Kind::Other
 }
 
 // Where the digits at the front of a part end, and the number that they write.
@@ -107,38 +184,56 @@ fn numbered(on: bool, v: usize, whole: bool) -> Token
     Token::Number(on, v - 1, whole)
 }
 
-// A number behind its sign.
-fn unsigned(s: &[u8], on: bool, from: usize, to: usize) -> Token
+// A number behind its sign. Digits that a space or the line's end follows end the word; only any other word is looked through for its end.
+fn unsigned(s: &[u8], on: bool, from: usize, to: usize) -> Word
     requires { ⌜ (from ≤ to) × (to ≤ length (now s)) ⌝ }
-    ensures { λ r. ⌜ r ≡ unsignedToken on (slice from to (now (s .entry))) ⌝ }
+    ensures { λ r. ⌜ (r .token ≡ unsignedToken on (upTo 32 (slice from to (now (s .entry))))) × (r .end ≡ from + length (upTo 32 (slice from to (now (s .entry))))) ⌝ }
 {
     let d = digits(s, from, eight_bytes(s, from, to));
     let e = d.end;
+    let end = find(s, 32, e, to);
     if e == from {
-        return Token::Bad;
+        return Word {
+            token: Token::Bad,
+            end,
+        };
     }
     if 7 < e - from {
-        return Token::Bad;
+        return Word {
+            token: Token::Bad,
+            end,
+        };
     }
     if s[from] == 48 {
         if 1 < e - from {
-            return Token::Bad;
+            return Word {
+                token: Token::Bad,
+                end,
+            };
         }
     }
-    numbered(on, d.value, e == to)
+    Word {
+        token: numbered(on, d.value, e == end),
+        end,
+    }
 }
 
-// The word that is this part.
-pub fn token_at(s: &[u8], from: usize, to: usize) -> Token
-    ensures { λ r. ⌜ r ≡ token (slice from to (now (s .entry))) ⌝ }
+// The word that starts here in a line that ends at to.
+pub fn word_at(s: &[u8], from: usize, to: usize) -> Word
+    ensures { λ r. ⌜ r ≡ wordAt (now (s .entry)) from to ⌝ }
 {
     let e = end(s, to);
     if e <= from {
-        return Token::Bad;
+        return Word {
+            token: Token::Bad,
+            end: from,
+        };
     }
+    let mut on = true;
+    let mut at = from;
     if s[from] == 45 {
-        unsigned(s, false, from + 1, e)
-    } else {
-        unsigned(s, true, from, e)
+        on = false;
+        at = from + 1;
     }
+    unsigned(s, on, at, e)
 }

@@ -3,12 +3,11 @@ use mathlib.Core.Path.{_≡_, refl, sym, ap, _∙_}
 use Prim.Native.Nat.{suc, _+_, _-_, _≤_}
 use native.Mathlib.Omega.{arith}
 use borrow.Author.Needs.{needs}
-use borrow.Author.Tests.{not-true, not-false}
 use lib.ListN.{length, drop}
 use lib.Seq.{length-slice, slice}
 use Rattle.lists.proofs.PieceLaws.{part-none, rest-last, rest-piece}
 use Rattle.lists.specs.Pieces.{cut}
-use Rattle.reply.proofs.LineLaws.{close-comment, close-other, close-last, close-end}
+use Rattle.reply.proofs.LineLaws.{close-last, close-end, closes, closes-else, close-kind}
 use Rattle.reply.specs.Lines.{closing}
 use Rattle.reply.proofs.read_closing.Statement.{statement}
 use Rattle.reply.proofs.read_closing.Tie as tie
@@ -45,17 +44,23 @@ returns-2 c =
     λ z. c .if2 .left (omega (arith, length-slice (l .at) (e .result) s (e .ensures .2))) in
     close-last _ (l .line) some ∙ sym (l .inv .2 ∙ ap (closing (l .line)) rest)
 
-is-comment-requires : tie.Need-is-comment-requires Inv-loop μ-loop
-is-comment-requires c κs = search needs
+kind-at-requires : tie.Need-kind-at-requires Inv-loop μ-loop
+kind-at-requires c κs = search needs
+
+enum-told : tie.Need-enum-told Inv-loop μ-loop
+enum-told c = search needs
 
 returns-3 : tie.Need-returns-3 Inv-loop μ-loop
 returns-3 c =
     let s = c .before .before .before .before .before .before .args .s .now in
     let l = c .before .before .before .before .loop in
     let e = c .before .before .before .line-end in
-    let rest = rest-piece 10 s (l .at) (e .result) (l .inv .0) (e .ensures .0) (c .before .before .if1 .left) in
-    let no = sym (c .before .is-comment .ensures) ∙ not-true _ (c .if3 .taken) in
-    close-other _ _ (l .line) no ∙ sym (l .inv .2 ∙ ap (closing (l .line)) rest)
+    let more = c .before .before .if1 .left in
+    let rest = rest-piece 10 s (l .at) (e .result) (l .inv .0) (e .ensures .0) more in
+    let p = slice (l .at) (e .result) s in
+    let ps = cut 10 (drop (e .result + 1) s) in
+    let line = closes-else p ps (l .line) (c .before .kind-at .result) (c .match .keys2) ∙ ap (closes p ps (l .line)) (c .before .kind-at .ensures) ∙ close-kind p ps (l .line) in
+    line ∙ sym (l .inv .2 ∙ ap (closing (l .line)) rest)
 
 add-at : tie.Need-add-at Inv-loop μ-loop
 add-at c = search needs
@@ -68,12 +73,15 @@ loop-less c = search needs
 
 loop-again : tie.Need-loop-again Inv-loop μ-loop
 loop-again c =
-    let s = c .before .before .before .before .before .before .args .s .now in
-    let l = c .before .before .before .before .loop in
-    let e = c .before .before .before .line-end in
-    let rest = rest-piece 10 s (l .at) (e .result) (l .inv .0) (e .ensures .0) (c .before .before .if1 .left) in
-    let is = sym (c .before .is-comment .ensures) ∙ not-false _ (c .if3 .left) in
-    (omega (arith, c .before .before .if1 .left), omega arith, l .inv .2 ∙ ap (closing (l .line)) rest ∙ close-comment _ _ (l .line) is)
+    let s = c .before .before .before .before .before .before .before .args .s .now in
+    let l = c .before .before .before .before .before .loop in
+    let e = c .before .before .before .before .line-end in
+    let more = c .before .before .before .if1 .left in
+    let rest = rest-piece 10 s (l .at) (e .result) (l .inv .0) (e .ensures .0) more in
+    let p = slice (l .at) (e .result) s in
+    let ps = cut 10 (drop (e .result + 1) s) in
+    let line = ap (closes p ps (l .line)) (sym (c .enum-told .given .1) ∙ c .before .before .kind-at .ensures) ∙ close-kind p ps (l .line) in
+    (omega (arith, more), omega arith, l .inv .2 ∙ ap (closing (l .line)) rest ∙ sym line)
 
 pub read-closing-spec : {M : Type 1} → statement M
 read-closing-spec =
@@ -85,7 +93,8 @@ read-closing-spec =
     line-end-requires
     returns
     returns-2
-    is-comment-requires
+    kind-at-requires
+    enum-told
     returns-3
     add-at
     add-line

@@ -24,11 +24,8 @@ abbrev μ-loop : tie.MeasureT-loop
 loop-holds : tie.Need-loop-holds Inv-loop μ-loop
 loop-holds c = search needs
 
-word-end-requires : tie.Need-word-end-requires Inv-loop μ-loop
-word-end-requires c κs = search needs
-
-token-at-requires : tie.Need-token-at-requires Inv-loop μ-loop
-token-at-requires c κs = search needs
+word-in-requires : tie.Need-word-in-requires Inv-loop μ-loop
+word-in-requires c κs = search needs
 
 mark-requires : tie.Need-mark-requires Inv-loop μ-loop
 mark-requires c κs = search needs
@@ -38,13 +35,13 @@ same-length c = search needs
 
 returns : tie.Need-returns Inv-loop μ-loop
 returns c =
-    let a = c .before .before .before .before .before .before .before .before .before .before .args in
-    let p = c .before .before .before .before .before .before .before .before .before .before .pre in
-    let l = c .before .before .before .before .before .before .before .loop in
-    let e = c .before .before .before .before .before .before .word-end in
+    let a = c .before .before .before .before .before .before .before .before .before .args in
+    let p = c .before .before .before .before .before .before .before .before .before .pre in
+    let l = c .before .before .before .before .before .before .loop in
+    let w = c .before .before .before .before .before .word-in in
     let r = c .before .before .before .mark in
-    let said = r .ensures ∙ ap (sayIn marks (a .n) (l .work)) (c .before .before .before .before .before .token-at .ensures) in
-    let word = last-word (a .n) (l .work) (a .s .now) (l .at) (a .to) (e .result) (l .inv .1) (p .1) (e .ensures .0) in
+    let said = r .ensures ∙ ap (sayIn marks (a .n) (l .work)) (w .ensures .0) in
+    let word = last-word (a .n) (l .work) (a .s .now) (l .at) (a .to) (w .result .end) (l .inv .1) (p .1) (w .ensures .1) in
     word (r .result) (r .last .1 .0) said (c .if1 .taken) ∙ sym (l .inv .2)
 
 enum-told : tie.Need-enum-told Inv-loop μ-loop
@@ -55,14 +52,14 @@ same-length-2 c = search needs
 
 returns-2 : tie.Need-returns-2 Inv-loop μ-loop
 returns-2 c =
-    let a = c .before .before .before .before .before .before .before .before .before .before .before .before .args in
-    let p = c .before .before .before .before .before .before .before .before .before .before .before .before .pre in
-    let l = c .before .before .before .before .before .before .before .before .before .loop in
-    let e = c .before .before .before .before .before .before .before .before .word-end in
+    let a = c .before .before .before .before .before .before .before .before .before .before .before .args in
+    let p = c .before .before .before .before .before .before .before .before .before .before .before .pre in
+    let l = c .before .before .before .before .before .before .before .before .loop in
+    let w = c .before .before .before .before .before .before .before .word-in in
     let r = c .before .before .before .before .before .mark in
     let g = c .enum-told .given in
-    let said = r .ensures ∙ ap (sayIn marks (a .n) (l .work)) (c .before .before .before .before .before .before .before .token-at .ensures) in
-    let word = bad-word (a .n) (l .work) (a .s .now) (l .at) (a .to) (e .result) (l .inv .1) (p .1) (e .ensures .0) in
+    let said = r .ensures ∙ ap (sayIn marks (a .n) (l .work)) (w .ensures .0) in
+    let word = bad-word (a .n) (l .work) (a .s .now) (l .at) (a .to) (w .result .end) (l .inv .1) (p .1) (w .ensures .1) in
     word (r .result) (r .last .1 .0) said (c .before .before .if1 .left) (g .0 .0) (g .1) ∙ sym (l .inv .2)
 
 enum-told-2 : tie.Need-enum-told-2 Inv-loop μ-loop
@@ -73,13 +70,13 @@ same-length-3 c = search needs
 
 returns-3 : tie.Need-returns-3 Inv-loop μ-loop
 returns-3 c =
-    let a = c .before .before .before .before .before .before .before .before .before .before .before .before .args in
-    let p = c .before .before .before .before .before .before .before .before .before .before .before .before .pre in
-    let l = c .before .before .before .before .before .before .before .before .before .loop in
-    let e = c .before .before .before .before .before .before .before .before .word-end in
+    let a = c .before .before .before .before .before .before .before .before .before .before .before .args in
+    let p = c .before .before .before .before .before .before .before .before .before .before .before .pre in
+    let l = c .before .before .before .before .before .before .before .before .loop in
+    let w = c .before .before .before .before .before .before .before .word-in in
     let r = c .before .before .before .before .before .mark in
-    let said = r .ensures ∙ ap (sayIn marks (a .n) (l .work)) (c .before .before .before .before .before .before .before .token-at .ensures) in
-    let word = early-zero (a .n) (l .work) (a .s .now) (l .at) (a .to) (e .result) (l .inv .1) (p .1) (e .ensures .0) in
+    let said = r .ensures ∙ ap (sayIn marks (a .n) (l .work)) (w .ensures .0) in
+    let word = early-zero (a .n) (l .work) (a .s .now) (l .at) (a .to) (w .result .end) (l .inv .1) (p .1) (w .ensures .1) in
     word (r .result) (r .last .1 .0) said (c .before .before .if1 .left) (c .enum-told2 .given .1) ∙ sym (l .inv .2)
 
 enum-told-3 : tie.Need-enum-told-3 Inv-loop μ-loop
@@ -93,14 +90,14 @@ loop-less c = search needs
 
 loop-again : tie.Need-loop-again Inv-loop μ-loop
 loop-again c =
-    let a = c .before .before .before .before .before .before .before .before .before .before .before .before .args in
-    let p = c .before .before .before .before .before .before .before .before .before .before .before .before .pre in
-    let l = c .before .before .before .before .before .before .before .before .before .loop in
-    let e = c .before .before .before .before .before .before .before .before .word-end in
+    let a = c .before .before .before .before .before .before .before .before .before .before .before .args in
+    let p = c .before .before .before .before .before .before .before .before .before .before .before .pre in
+    let l = c .before .before .before .before .before .before .before .before .loop in
+    let w = c .before .before .before .before .before .before .before .word-in in
     let r = c .before .before .before .before .before .mark in
     let more = c .before .before .if1 .left in
-    let said = r .ensures ∙ ap (sayIn marks (a .n) (l .work)) (c .before .before .before .before .before .before .before .token-at .ensures) in
-    let word = next-word (a .n) (l .work) (a .s .now) (l .at) (a .to) (e .result) (l .inv .1) (p .1) (e .ensures .0) in
+    let said = r .ensures ∙ ap (sayIn marks (a .n) (l .work)) (w .ensures .0) in
+    let word = next-word (a .n) (l .work) (a .s .now) (l .at) (a .to) (w .result .end) (l .inv .1) (p .1) (w .ensures .1) in
     let next = word (r .result) (r .last .1 .0) said more (c .enum-told3 .given .1) in
     (omega arith, omega (arith, more), l .inv .2 ∙ next, search needs)
 
@@ -111,8 +108,7 @@ read-numbers-spec =
     Inv-loop
     μ-loop
     loop-holds
-    word-end-requires
-    token-at-requires
+    word-in-requires
     mark-requires
     same-length
     returns

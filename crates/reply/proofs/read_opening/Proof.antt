@@ -3,22 +3,22 @@ use mathlib.Core.Path.{_≡_, refl, sym, ap, _∙_}
 use Prim.Native.Nat.{suc, _+_, _-_, _≤_}
 use native.Mathlib.Omega.{arith}
 use borrow.Author.Needs.{needs}
-use borrow.Author.Tests.{not-true, not-false}
 use lib.ListN.{length, drop}
+use lib.Seq.{slice}
 use Rattle.lists.proofs.PieceLaws.{rest-last, rest-piece}
 use Rattle.lists.specs.Pieces.{cut}
-use Rattle.reply.proofs.LineLaws.{open-last, open-comment, open-satisfiable, open-unsatisfiable, open-other}
+use Rattle.reply.proofs.LineLaws.{open-last, opens, opens-else, open-kind}
 use Rattle.reply.specs.Lines.{opening}
 use Rattle.reply.proofs.read_opening.Statement.{statement}
 use Rattle.reply.proofs.read_opening.Tie as tie
 
 abbrev Inv-loop : tie.InvT-loop
-Inv-loop s at₀ line₀ t5 t6 at line = (at ≤ length s)
+Inv-loop s at₀ line₀ at line = (at ≤ length s)
     × (line ≤ at + 1)
     × (opening 1 (cut 10 s) ≡ opening line (cut 10 (drop at s)))
 
 abbrev μ-loop : tie.MeasureT-loop
-μ-loop s at₀ line₀ t5 t6 at line = suc (length s) - at
+μ-loop s at₀ line₀ at line = suc (length s) - at
 
 loop-holds : tie.Need-loop-holds Inv-loop μ-loop
 loop-holds c = (omega arith, omega arith, refl)
@@ -34,59 +34,59 @@ returns c =
     let rest = rest-last 10 s (l .at) (e .result) (l .inv .0) (e .ensures .0) (c .if1 .taken) in
     (open-last _ (l .line) ∙ sym (l .inv .2 ∙ ap (opening (l .line)) rest), tt)
 
-is-comment-requires : tie.Need-is-comment-requires Inv-loop μ-loop
-is-comment-requires c κs = search needs
+kind-at-requires : tie.Need-kind-at-requires Inv-loop μ-loop
+kind-at-requires c κs = search needs
 
-slice-aggregate-is-line : tie.Need-slice-aggregate-is-line Inv-loop μ-loop
-slice-aggregate-is-line c = search needs
+enum-told : tie.Need-enum-told Inv-loop μ-loop
+enum-told c = search needs
 
-is-line-requires : tie.Need-is-line-requires Inv-loop μ-loop
-is-line-requires c κs = search needs
+enum-told-2 : tie.Need-enum-told-2 Inv-loop μ-loop
+enum-told-2 c = search needs
 
-add-t13 : tie.Need-add-t13 Inv-loop μ-loop
-add-t13 c = search needs
+add-t8 : tie.Need-add-t8 Inv-loop μ-loop
+add-t8 c = search needs
 
-add-t14 : tie.Need-add-t14 Inv-loop μ-loop
-add-t14 c = search needs
+add-t9 : tie.Need-add-t9 Inv-loop μ-loop
+add-t9 c = search needs
 
 returns-2 : tie.Need-returns-2 Inv-loop μ-loop
 returns-2 c =
-    let s = c .before .before .before .before .before .before .before .before .before .args .s .now in
-    let l = c .before .before .before .before .before .before .before .loop in
-    let e = c .before .before .before .before .before .before .line-end in
-    let more = c .before .before .before .before .before .if1 .left in
+    let s = c .before .before .before .before .before .before .before .args .s .now in
+    let l = c .before .before .before .before .before .loop in
+    let e = c .before .before .before .before .line-end in
+    let more = c .before .before .before .if1 .left in
     let rest = rest-piece 10 s (l .at) (e .result) (l .inv .0) (e .ensures .0) more in
-    let no = sym (c .before .before .before .before .is-comment .ensures) ∙ not-true _ (c .before .before .before .if2 .taken) in
-    let is = sym (c .before .is-line .ensures) ∙ c .if3 .taken in
-    (open-satisfiable _ _ (l .line) no is ∙ sym (l .inv .2 ∙ ap (opening (l .line)) rest), (omega (arith, more), omega arith))
+    let p = slice (l .at) (e .result) s in
+    let ps = cut 10 (drop (e .result + 1) s) in
+    let line = ap (opens p ps (l .line)) (sym (c .enum-told2 .given .1) ∙ c .before .before .kind-at .ensures) ∙ open-kind p ps (l .line) in
+    (line ∙ sym (l .inv .2 ∙ ap (opening (l .line)) rest), (omega (arith, more), omega arith))
 
-slice-aggregate-is-line-2 : tie.Need-slice-aggregate-is-line-2 Inv-loop μ-loop
-slice-aggregate-is-line-2 c = search needs
-
-is-line-requires-2 : tie.Need-is-line-requires-2 Inv-loop μ-loop
-is-line-requires-2 c κs = search needs
+enum-told-3 : tie.Need-enum-told-3 Inv-loop μ-loop
+enum-told-3 c = search needs
 
 returns-3 : tie.Need-returns-3 Inv-loop μ-loop
 returns-3 c =
-    let s = c .before .before .before .before .before .before .before .before .before .before .before .before .args .s .now in
-    let l = c .before .before .before .before .before .before .before .before .before .before .loop in
-    let e = c .before .before .before .before .before .before .before .before .before .line-end in
-    let rest = rest-piece 10 s (l .at) (e .result) (l .inv .0) (e .ensures .0) (c .before .before .before .before .before .before .before .before .if1 .left) in
-    let no = sym (c .before .before .before .before .before .before .before .is-comment .ensures) ∙ not-true _ (c .before .before .before .before .before .before .if2 .taken) in
-    let not = sym (c .before .before .before .before .is-line .ensures) ∙ c .before .before .before .if3 .left in
-    let is = sym (c .before .is-line2 .ensures) ∙ c .if4 .taken in
-    (open-unsatisfiable _ _ (l .line) no not is ∙ sym (l .inv .2 ∙ ap (opening (l .line)) rest), tt)
+    let s = c .before .before .before .before .before .before .before .args .s .now in
+    let l = c .before .before .before .before .before .loop in
+    let e = c .before .before .before .before .line-end in
+    let more = c .before .before .before .if1 .left in
+    let rest = rest-piece 10 s (l .at) (e .result) (l .inv .0) (e .ensures .0) more in
+    let p = slice (l .at) (e .result) s in
+    let ps = cut 10 (drop (e .result + 1) s) in
+    let line = ap (opens p ps (l .line)) (sym (c .enum-told3 .given .1) ∙ c .before .before .kind-at .ensures) ∙ open-kind p ps (l .line) in
+    (line ∙ sym (l .inv .2 ∙ ap (opening (l .line)) rest), tt)
 
 returns-4 : tie.Need-returns-4 Inv-loop μ-loop
 returns-4 c =
-    let s = c .before .before .before .before .before .before .before .before .before .before .before .before .args .s .now in
-    let l = c .before .before .before .before .before .before .before .before .before .before .loop in
-    let e = c .before .before .before .before .before .before .before .before .before .line-end in
-    let rest = rest-piece 10 s (l .at) (e .result) (l .inv .0) (e .ensures .0) (c .before .before .before .before .before .before .before .before .if1 .left) in
-    let no = sym (c .before .before .before .before .before .before .before .is-comment .ensures) ∙ not-true _ (c .before .before .before .before .before .before .if2 .taken) in
-    let not = sym (c .before .before .before .before .is-line .ensures) ∙ c .before .before .before .if3 .left in
-    let nor = sym (c .before .is-line2 .ensures) ∙ c .if4 .left in
-    (open-other _ _ (l .line) no not nor ∙ sym (l .inv .2 ∙ ap (opening (l .line)) rest), tt)
+    let s = c .before .before .before .before .before .before .args .s .now in
+    let l = c .before .before .before .before .loop in
+    let e = c .before .before .before .line-end in
+    let more = c .before .before .if1 .left in
+    let rest = rest-piece 10 s (l .at) (e .result) (l .inv .0) (e .ensures .0) more in
+    let p = slice (l .at) (e .result) s in
+    let ps = cut 10 (drop (e .result + 1) s) in
+    let line = opens-else p ps (l .line) (c .before .kind-at .result) (c .match .keys4) ∙ ap (opens p ps (l .line)) (c .before .kind-at .ensures) ∙ open-kind p ps (l .line) in
+    (line ∙ sym (l .inv .2 ∙ ap (opening (l .line)) rest), tt)
 
 add-at : tie.Need-add-at Inv-loop μ-loop
 add-at c = search needs
@@ -99,12 +99,15 @@ loop-less c = search needs
 
 loop-again : tie.Need-loop-again Inv-loop μ-loop
 loop-again c =
-    let s = c .before .before .before .before .before .before .args .s .now in
-    let l = c .before .before .before .before .loop in
-    let e = c .before .before .before .line-end in
-    let rest = rest-piece 10 s (l .at) (e .result) (l .inv .0) (e .ensures .0) (c .before .before .if1 .left) in
-    let is = sym (c .before .is-comment .ensures) ∙ not-false _ (c .if2 .left) in
-    (omega (arith, c .before .before .if1 .left), omega arith, l .inv .2 ∙ ap (opening (l .line)) rest ∙ open-comment _ _ (l .line) is)
+    let s = c .before .before .before .before .before .before .before .args .s .now in
+    let l = c .before .before .before .before .before .loop in
+    let e = c .before .before .before .before .line-end in
+    let more = c .before .before .before .if1 .left in
+    let rest = rest-piece 10 s (l .at) (e .result) (l .inv .0) (e .ensures .0) more in
+    let p = slice (l .at) (e .result) s in
+    let ps = cut 10 (drop (e .result + 1) s) in
+    let line = ap (opens p ps (l .line)) (sym (c .enum-told .given .1) ∙ c .before .before .kind-at .ensures) ∙ open-kind p ps (l .line) in
+    (omega (arith, more), omega arith, l .inv .2 ∙ ap (opening (l .line)) rest ∙ sym line)
 
 pub read-opening-spec : {M : Type 1} → statement M
 read-opening-spec =
@@ -115,14 +118,13 @@ read-opening-spec =
     loop-holds
     line-end-requires
     returns
-    is-comment-requires
-    slice-aggregate-is-line
-    is-line-requires
-    add-t13
-    add-t14
+    kind-at-requires
+    enum-told
+    enum-told-2
+    add-t8
+    add-t9
     returns-2
-    slice-aggregate-is-line-2
-    is-line-requires-2
+    enum-told-3
     returns-3
     returns-4
     add-at

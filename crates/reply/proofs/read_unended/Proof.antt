@@ -1,6 +1,9 @@
--- Whatever the line came to, the reply halts there.
+-- Whatever the line came to, the reply halts there; a comment without its LF is the same fault as any other line.
+use mathlib.Core.Path.{_∙_}
 use borrow.Author.Needs.{needs}
-use Rattle.reply.proofs.LineLaws.{open-fault, open-more, open-closed}
+use lib.ListN.{length}
+use lib.Seq.{slice}
+use Rattle.reply.proofs.LineLaws.{lineIn, line-unended, open-fault, open-more, open-closed}
 use Rattle.reply.proofs.read_unended.Statement.{statement}
 use Rattle.reply.proofs.read_unended.Tie as tie
 
@@ -21,28 +24,37 @@ same-length c = search needs
 
 returns : tie.Need-returns
 returns c =
-    let k = c .before .before .before .before .before .before .before .before .before .args .line in
+    let a = c .before .before .before .before .before .before .before .before .before .args in
+    let k = a .line in
+    let p = slice (a .at) (length (a .s .now)) (a .s .now) in
+    let same = line-unended (a .n) (a .work .now) p k in
     let r = c .before .before .before .before .before .read-value-line in
     let g = c .before .r .given in
-    (open-fault k (r .result) (r .last .1 .1 .1 .0) _ (r .ensures) (g .0 .0) (g .1), tt)
+    (open-fault k (r .result) (r .last .1 .1 .1 .0) (lineIn (a .n) (a .work .now) p) (r .ensures) (g .0 .0) (g .1) ∙ same, tt)
 
 same-length-2 : tie.Need-same-length-2
 same-length-2 c = search needs
 
 returns-2 : tie.Need-returns-2
 returns-2 c =
-    let k = c .before .before .before .before .before .before .before .before .args .line in
+    let a = c .before .before .before .before .before .before .before .before .args in
+    let k = a .line in
+    let p = slice (a .at) (length (a .s .now)) (a .s .now) in
+    let same = line-unended (a .n) (a .work .now) p k in
     let r = c .before .before .before .before .read-value-line in
-    (open-more k (r .result) (r .last .1 .1 .1 .0) _ (r .ensures) (c .enum-told .given .1), tt)
+    (open-more k (r .result) (r .last .1 .1 .1 .0) (lineIn (a .n) (a .work .now) p) (r .ensures) (c .enum-told .given .1) ∙ same, tt)
 
 same-length-3 : tie.Need-same-length-3
 same-length-3 c = search needs
 
 returns-3 : tie.Need-returns-3
 returns-3 c =
-    let k = c .before .before .before .before .before .before .before .before .args .line in
+    let a = c .before .before .before .before .before .before .before .before .args in
+    let k = a .line in
+    let p = slice (a .at) (length (a .s .now)) (a .s .now) in
+    let same = line-unended (a .n) (a .work .now) p k in
     let r = c .before .before .before .before .read-value-line in
-    (open-closed k (r .result) (r .last .1 .1 .1 .0) _ (r .ensures) (c .enum-told2 .given .1), tt)
+    (open-closed k (r .result) (r .last .1 .1 .1 .0) (lineIn (a .n) (a .work .now) p) (r .ensures) (c .enum-told2 .given .1) ∙ same, tt)
 
 pub read-unended-spec : {M : Type 1} → statement M
 read-unended-spec =

@@ -1,15 +1,22 @@
--- Behind `v ` the line is its words; any other line is a fault.
-use mathlib.Core.Path.{sym, _∙_}
+-- A comment says nothing, behind `v ` the line is its words, and any other line is a fault.
+use mathlib.Core.Path.{sym, ap, _∙_}
 use borrow.Author.Needs.{needs}
-use Rattle.reply.proofs.LineLaws.{v-room, v-line, no-v}
+use lib.Seq.{slice}
+use Rattle.lists.specs.Pieces.{cut}
+use Rattle.reply.proofs.LineLaws.{says, says-else, line-kind, v-room, behind}
+use Rattle.reply.specs.Lines.{numbersIn}
+use Rattle.reply.specs.Said.{marks}
 use Rattle.reply.proofs.read_value_line.Statement.{statement}
 use Rattle.reply.proofs.read_value_line.Tie as tie
 
-slice-aggregate-begins-at : tie.Need-slice-aggregate-begins-at
-slice-aggregate-begins-at c = search needs
+kind-at-requires : tie.Need-kind-at-requires
+kind-at-requires c κs = search needs
 
-begins-at-requires : tie.Need-begins-at-requires
-begins-at-requires c κs = search needs
+enum-told : tie.Need-enum-told
+enum-told c = search needs
+
+enum-told-2 : tie.Need-enum-told-2
+enum-told-2 c = search needs
 
 add-read-numbers : tie.Need-add-read-numbers
 add-read-numbers c = search needs
@@ -18,31 +25,44 @@ read-numbers-requires : tie.Need-read-numbers-requires
 read-numbers-requires c κs =
     let a = c .before .before .before .before .before .before .args in
     let p = c .before .before .before .before .before .before .pre in
-    let is = sym (c .before .if1 .taken) ∙ c .before .before .begins-at .ensures in
-    (v-room (a .n) (a .work .now) (a .s .now) (a .from) (a .to) (p .1) is, p .1, p .2)
+    let kind = sym (c .before .before .before .kind-at .ensures) ∙ c .before .enum-told2 .given .1 in
+    (v-room (a .s .now) (a .from) (a .to) (p .1) kind, p .1, p .2)
+
+returns : tie.Need-returns
+returns c =
+    let a = c .before .before .before .before .before .args in
+    let p = slice (a .from) (a .to) (a .s .now) in
+    let k = c .before .before .kind-at in
+    ap (says (a .n) (a .work .now) p) (sym (c .enum-told .given .1) ∙ k .ensures) ∙ line-kind (a .n) (a .work .now) p
 
 same-length : tie.Need-same-length
 same-length c = search needs
 
-returns : tie.Need-returns
-returns c =
-    let a = c .before .before .before .before .before .before .before .before .before .args in
-    let is = sym (c .before .before .before .before .if1 .taken) ∙ c .before .before .before .before .before .begins-at .ensures in
-    c .before .before .read-numbers .ensures ∙ v-line (a .n) (a .work .now) (a .s .now) (a .from) (a .to) is
-
 returns-2 : tie.Need-returns-2
 returns-2 c =
-    let a = c .before .before .before .before .before .args in
-    no-v (a .n) (a .work .now) (a .s .now) (a .from) (a .to) (sym (c .if1 .left) ∙ c .before .begins-at .ensures)
+    let a = c .before .before .before .before .before .before .before .before .before .args in
+    let p = slice (a .from) (a .to) (a .s .now) in
+    let k = c .before .before .before .before .before .before .kind-at in
+    let words = c .before .before .read-numbers .ensures ∙ ap (λ l. numbersIn marks (a .n) (a .work .now) (cut 32 l)) (behind (a .s .now) (a .from) (a .to)) in
+    words ∙ ap (says (a .n) (a .work .now) p) (sym (c .before .before .before .before .enum-told2 .given .1) ∙ k .ensures) ∙ line-kind (a .n) (a .work .now) p
+
+returns-3 : tie.Need-returns-3
+returns-3 c =
+    let a = c .before .before .before .before .args in
+    let p = slice (a .from) (a .to) (a .s .now) in
+    let k = c .before .kind-at in
+    says-else (a .n) (a .work .now) p (k .result) (c .match .keys3) ∙ ap (says (a .n) (a .work .now) p) (k .ensures) ∙ line-kind (a .n) (a .work .now) p
 
 pub read-value-line-spec : {M : Type 1} → statement M
 read-value-line-spec =
     tie.close
     (tie.spec
-    slice-aggregate-begins-at
-    begins-at-requires
+    kind-at-requires
+    enum-told
+    enum-told-2
     add-read-numbers
     read-numbers-requires
-    same-length
     returns
-    returns-2)
+    same-length
+    returns-2
+    returns-3)

@@ -1,16 +1,14 @@
 -- The loop keeps what is left: the lines from the first on tell what the lines from this one on tell, with the marks so far.
 use mathlib.Core.Path.{_≡_, refl, sym, ap, _∙_}
-use mathlib.Core.Logic.{⊎-elim}
-use mathlib.Core.List.{List}
-use Prim.Native.Nat.{ℕ, suc, _+_, _-_, _≤_}
+use Prim.Native.Nat.{suc, _+_, _-_, _≤_}
 use native.Mathlib.Omega.{arith}
 use borrow.Author.Needs.{needs}
-use borrow.Author.Tests.{not-true, not-false}
 use lib.ListN.{length, drop}
+use lib.Seq.{slice}
 use Rattle.lists.proofs.PieceLaws.{rest-last, rest-piece}
 use Rattle.lists.specs.Pieces.{cut}
-use Rattle.reply.proofs.LineLaws.{values-last, values-comment, values-fault, values-closed, values-more}
-use Rattle.reply.specs.Lines.{Told, valueLinesIn}
+use Rattle.reply.proofs.LineLaws.{values-last, values-fault, values-closed, values-more}
+use Rattle.reply.specs.Lines.{valueLinesIn}
 use Rattle.reply.specs.Said.{marks}
 use Rattle.reply.proofs.read_values.Statement.{statement}
 use Rattle.reply.proofs.read_values.Tie as tie
@@ -46,9 +44,6 @@ returns c =
     let all = l .inv .2 ∙ ap (valueLinesIn marks (a .n) (l .line) (l .work)) rest in
     (u .ensures .0 ∙ values-last (a .n) (l .line) (l .work) (a .s .now) (l .at) (e .result) (c .before .before .before .before .if1 .taken) ∙ sym all, u .ensures .1)
 
-is-comment-requires : tie.Need-is-comment-requires Inv-loop μ-loop
-is-comment-requires c κs = search needs
-
 read-value-line-requires : tie.Need-read-value-line-requires Inv-loop μ-loop
 read-value-line-requires c κs = search needs
 
@@ -60,40 +55,42 @@ same-length-2 c = search needs
 
 returns-2 : tie.Need-returns-2 Inv-loop μ-loop
 returns-2 c =
-    let a = c .before .before .before .before .before .before .before .before .before .before .before .before .before .before .args in
-    let l = c .before .before .before .before .before .before .before .before .before .before .before .loop in
-    let e = c .before .before .before .before .before .before .before .before .before .before .line-end in
+    let a = c .before .before .before .before .before .before .before .before .before .before .before .before .args in
+    let s = a .s .now in
+    let l = c .before .before .before .before .before .before .before .before .before .loop in
+    let e = c .before .before .before .before .before .before .before .before .line-end in
+    let more = c .before .before .before .before .before .before .before .if1 .left in
     let r = c .before .before .before .before .before .read-value-line in
+    let rest = l .inv .2 ∙ ap (valueLinesIn marks (a .n) (l .line) (l .work)) (rest-piece 10 s (l .at) (e .result) (l .inv .0) (e .ensures .0) more) in
+    let p = slice (l .at) (e .result) s in
+    let ps = cut 10 (drop (e .result + 1) s) in
     let g = c .before .r .given in
-    let rest = rest-piece 10 (a .s .now) (l .at) (e .result) (l .inv .0) (e .ensures .0) (c .before .before .before .before .before .before .before .before .before .if1 .left) in
-    let no = sym (c .before .before .before .before .before .before .before .before .is-comment .ensures) ∙ not-true _ (c .before .before .before .before .before .before .before .if2 .taken) in
-    let line = values-fault (a .n) (l .line) (l .work) _ _ (r .result) (r .last .1 .1 .1 .0) (r .ensures) no (g .0 .0) (g .1) in
-    (line ∙ sym (l .inv .2 ∙ ap (valueLinesIn marks (a .n) (l .line) (l .work)) rest), tt)
+    (values-fault (a .n) (l .line) (l .work) p ps (r .result) (r .last .1 .1 .1 .0) (r .ensures) (g .0 .0) (g .1) ∙ sym rest, tt)
 
 enum-told : tie.Need-enum-told Inv-loop μ-loop
 enum-told c = search needs
 
+add-t17 : tie.Need-add-t17 Inv-loop μ-loop
+add-t17 c = search needs
+
 add-t18 : tie.Need-add-t18 Inv-loop μ-loop
 add-t18 c = search needs
-
-add-t19 : tie.Need-add-t19 Inv-loop μ-loop
-add-t19 c = search needs
 
 same-length-3 : tie.Need-same-length-3 Inv-loop μ-loop
 same-length-3 c = search needs
 
 returns-3 : tie.Need-returns-3 Inv-loop μ-loop
 returns-3 c =
-    let a = c .before .before .before .before .before .before .before .before .before .before .before .before .before .args in
-    let l = c .before .before .before .before .before .before .before .before .before .before .loop in
-    let e = c .before .before .before .before .before .before .before .before .before .line-end in
-    let more = c .before .before .before .before .before .before .before .before .if1 .left in
+    let a = c .before .before .before .before .before .before .before .before .before .before .before .args in
+    let s = a .s .now in
+    let l = c .before .before .before .before .before .before .before .before .loop in
+    let e = c .before .before .before .before .before .before .before .line-end in
+    let more = c .before .before .before .before .before .before .if1 .left in
     let r = c .before .before .before .before .read-value-line in
-    let g = c .enum-told .given in
-    let rest = rest-piece 10 (a .s .now) (l .at) (e .result) (l .inv .0) (e .ensures .0) more in
-    let no = sym (c .before .before .before .before .before .before .before .is-comment .ensures) ∙ not-true _ (c .before .before .before .before .before .before .if2 .taken) in
-    let line = values-closed (a .n) (l .line) (l .work) _ _ (r .result) (r .last .1 .1 .1 .0) (r .ensures) no (g .1) in
-    (line ∙ sym (l .inv .2 ∙ ap (valueLinesIn marks (a .n) (l .line) (l .work)) rest), (omega (arith, more), omega arith))
+    let rest = l .inv .2 ∙ ap (valueLinesIn marks (a .n) (l .line) (l .work)) (rest-piece 10 s (l .at) (e .result) (l .inv .0) (e .ensures .0) more) in
+    let p = slice (l .at) (e .result) s in
+    let ps = cut 10 (drop (e .result + 1) s) in
+    (values-closed (a .n) (l .line) (l .work) p ps (r .result) (r .last .1 .1 .1 .0) (r .ensures) (c .enum-told .given .1) ∙ sym rest, (omega (arith, more), omega arith))
 
 enum-told-2 : tie.Need-enum-told-2 Inv-loop μ-loop
 enum-told-2 c = search needs
@@ -109,23 +106,16 @@ loop-less c = search needs
 
 loop-again : tie.Need-loop-again Inv-loop μ-loop
 loop-again c =
-    let a = c .before .before .before .before .before .before .before .args in
+    let a = c .before .before .before .before .before .before .before .before .before .before .before .args in
     let s = a .s .now in
-    let l = c .before .before .before .before .loop in
-    let e = c .before .before .before .line-end in
-    let rest = ap (valueLinesIn marks (a .n) (l .line) (l .work)) (rest-piece 10 s (l .at) (e .result) (l .inv .0) (e .ensures .0) (c .before .before .if1 .left)) in
-    let next : List ℕ → Told (List ℕ) = λ w. valueLinesIn marks (a .n) (l .line + 1) w (cut 10 (drop (e .result + 1) s)) in
-    let on : valueLinesIn marks (a .n) (l .line) (l .work) (cut 10 (drop (l .at) s)) ≡ next (c .if2 .work) = ⊎-elim
-    (λ x.
-    let no = sym (c .before .is-comment .ensures) ∙ not-true _ (x .0 .taken) in
-    let line = values-more (a .n) (l .line) (l .work) _ _ (x .2 .result) (x .2 .last .1 .1 .1 .0) (x .2 .ensures) no (x .6 .given .1) in
-    rest ∙ line ∙ ap next (sym (x .7)))
-    (λ x.
-    let is = sym (c .before .is-comment .ensures) ∙ not-false _ (x .0 .left) in
-    rest ∙ values-comment (a .n) (l .line) (l .work) _ _ is ∙ ap next (sym (x .1)))
-    (c .if2 .came) in
-    let long : length (c .if2 .work) ≡ length (l .work) = ⊎-elim (λ x. ap length (x .7) ∙ x .3 .given) (λ x. ap length (x .1)) (c .if2 .came) in
-    (omega (arith, c .before .before .if1 .left), omega arith, l .inv .2 ∙ on, long ∙ l .inv .3)
+    let l = c .before .before .before .before .before .before .before .before .loop in
+    let e = c .before .before .before .before .before .before .before .line-end in
+    let more = c .before .before .before .before .before .before .if1 .left in
+    let r = c .before .before .before .before .read-value-line in
+    let rest = l .inv .2 ∙ ap (valueLinesIn marks (a .n) (l .line) (l .work)) (rest-piece 10 s (l .at) (e .result) (l .inv .0) (e .ensures .0) more) in
+    let p = slice (l .at) (e .result) s in
+    let ps = cut 10 (drop (e .result + 1) s) in
+    (omega (arith, more), omega arith, rest ∙ values-more (a .n) (l .line) (l .work) p ps (r .result) (r .last .1 .1 .1 .0) (r .ensures) (c .enum-told2 .given .1), search needs)
 
 pub read-values-spec : {M : Type 1} → statement M
 read-values-spec =
@@ -138,14 +128,13 @@ read-values-spec =
     read-unended-requires
     same-length
     returns
-    is-comment-requires
     read-value-line-requires
     enum-known-r
     same-length-2
     returns-2
     enum-told
+    add-t17
     add-t18
-    add-t19
     same-length-3
     returns-3
     enum-told-2
