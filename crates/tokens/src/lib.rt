@@ -1,7 +1,7 @@
 // The bytes of a reply: where a line or a word ends, how it begins, and one number. Parts go by a slice and two numbers.
 ghost use mathlib.Core.Path.{_≡_};
-ghost use Prim.Native.Nat.{_+_, _-_, _≤_};
-ghost use lib.ListN.{length, take};
+ghost use Prim.Native.Nat.{_+_, _-_, _<_, _≤_};
+ghost use lib.ListN.{length, getD, take};
 ghost use lib.Seq.{slice};
 ghost use Rattle.lists.specs.Pieces.{upTo, starts, is};
 ghost use Rattle.tokens.specs.Kinds.{kindOf};
@@ -112,7 +112,21 @@ fn is_part(s: &[u8], from: usize, to: usize, t: &[u8]) -> bool
     begins(s, from, to, t)
 }
 
-// The kind of the line that is this part. Most lines are values, so these are asked for first: they are of no other kind.
+// The kind of a line that begins `s`.
+fn said_at(s: &[u8], from: usize, to: usize) -> Kind
+    requires { ⌜ (from < to) × (to ≤ length (now s)) × (getD (now s) from 0 ≡ 115) ⌝ }
+    ensures { λ r. ⌜ r ≡ kindOf (slice from to (now (s .entry))) ⌝ }
+{
+    if is_part(s, from, to, b"s SATISFIABLE") {
+        return Kind::Satisfiable;
+    }
+    if is_part(s, from, to, b"s UNSATISFIABLE") {
+        return Kind::Unsatisfiable;
+    }
+    Kind::Other
+}
+
+// The kind of the line that is this part, told by its first byte where that is enough.
 pub fn kind_at(s: &[u8], from: usize, to: usize) -> Kind
     ensures { λ r. ⌜ r ≡ kindOf (slice from to (now (s .entry))) ⌝ }
 {
@@ -120,17 +134,14 @@ pub fn kind_at(s: &[u8], from: usize, to: usize) -> Kind
     if e <= from {
         return Kind::Other;
     }
-    if begins(s, from, e, b"v ") {
-        return Kind::Values;
-    }
-    if begins(s, from, e, b"c") {
+    if s[from] == b'c' {
         return Kind::Comment;
     }
-    if is_part(s, from, e, b"s SATISFIABLE") {
-        return Kind::Satisfiable;
+    if s[from] == b's' {
+        return said_at(s, from, e);
     }
-    if is_part(s, from, e, b"s UNSATISFIABLE") {
-        return Kind::Unsatisfiable;
+    if begins(s, from, e, b"v ") {
+        return Kind::Values;
     }
     Kind::Other
 }
