@@ -1,13 +1,12 @@
 -- An accepted text gives a fit table, and so demand 3 holds of it: `accepted-fit` and `accepted-accurate`, at the end.
-use mathlib.Core.Path.{_≡_, refl, sym, ap, _∙_, subst}
-use mathlib.Core.Bool.{Bool, true, false}
+use mathlib.Core.Path.{_≡_, subst}
+use mathlib.Core.Bool.{true, false}
 use mathlib.Core.List.{List, [], _∷_}
-use Prim.Native.Nat.{ℕ, _+_, _≤_, _<_}
+use Prim.Native.Nat.{ℕ, _+_}
 use native.Mathlib.Omega.{arith}
 use borrow.Author.Tests.{le-leb, leb-false, eqb-false}
 use lib.Dec.{eqb, leb, ltb}
 use lib.ListN.{drop}
-use Rattle.lists.specs.Tests.{every}
 use Rattle.lists.proofs.TestLaws.{pass}
 use Rattle.job.specs.Limits.{maxLemmas, maxNames}
 use Rattle.job.specs.Fitness.{firstOf, bothCritical, programFits, fit}
@@ -32,7 +31,7 @@ use Rattle.parse.specs.Lemmas.{words, bare, negated, itemOf, signed, lem
 use Rattle.parse.specs.Lemmas.{named as namedIn}
 use Rattle.parse.specs.Reading.{fromLemmas, reading}
 use Rattle.parse.specs.declared.Verdict.{Verdict}
-use Rattle.parse.specs.declared.Verdict.the-variants.{Accepted, Refused}
+use Rattle.parse.specs.declared.Verdict.the-variants.{Accepted}
 use Rattle.parse.specs.declared.Reading.{Reading}
 use Rattle.parse.proofs.AnswerLaws.{Holds, pick-holds, then-holds, holds-of}
 use Rattle.parse.proofs.LabelLaws.{link-steady, started-holds}

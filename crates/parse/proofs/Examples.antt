@@ -2,10 +2,10 @@
 use mathlib.Core.Path.{_≡_, refl}
 use mathlib.Core.List.{List, [], _∷_, map}
 use Prim.Native.Nat.{ℕ}
-use Prim.Native.Char.{Char, code}
+use Prim.Native.Char.{code}
 use Prim.Native.String.{String}
 use Prim.Native.String.{[] as end, _∷_ as _then_}
-use lib.IntN.{ℤ, pos, negsuc}
+use lib.IntN.{pos, negsuc}
 use lib.ListN.{take}
 use Rattle.lists.specs.Rows.{each}
 use Rattle.lists.specs.Tests.{every, all, within}
@@ -30,7 +30,7 @@ use Rattle.parse.specs.Labels.{targetOf, aim, enterTo, enterOther, on, l
 use Rattle.parse.specs.Lemmas.{filled, words, bare, itemIn, named, lemma, whole, lemmaLine, lemmaLines}
 use Rattle.parse.specs.Reading.{fromLemmas, reading}
 use Rattle.parse.specs.declared.Verdict.{Verdict}
-use Rattle.parse.specs.declared.Verdict.the-variants.{Accepted, Refused}
+use Rattle.parse.specs.declared.Verdict.the-variants.{Accepted}
 
 unfoldable bytes : String → List ℕ
 bytes end = []

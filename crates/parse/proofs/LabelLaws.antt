@@ -20,10 +20,9 @@ use Rattle.scan.specs.declared.Found.{Found}
 use Rattle.scan.specs.declared.Found.the-variants.{At, Nothing}
 use Rattle.program.specs.declared.Draft.{Draft}
 use Rattle.parse.specs.Answers.{refusal, refuse, deny, accept, withoutLemmas, pick}
-use Rattle.parse.specs.Labels.{pickTarget, targetOf, aim, numberOf, linked, withTo, withOther, enterTo, enterOther, on, thenLink, pickLinked, linkStep, link, started, atLemmas}
+use Rattle.parse.specs.Labels.{pickTarget, targetOf, numberOf, linked, withTo, withOther, enterTo, enterOther, on, thenLink, pickLinked, linkStep, link, started, atLemmas}
 use Rattle.parse.specs.declared.Verdict.{Verdict}
 use Rattle.parse.specs.declared.Verdict.the-variants.{Accepted, Refused}
-use Rattle.parse.specs.declared.Reading.{Reading}
 use Rattle.parse.specs.declared.Target.{Target}
 use Rattle.parse.specs.declared.Target.the-variants.{Step, No}
 use Rattle.parse.specs.declared.Linked.{Linked}

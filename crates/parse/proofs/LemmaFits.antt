@@ -1,19 +1,19 @@
 -- The lemmas that are entered are fit: 1 to 64 items of the job each, and every unused place 0.
-use mathlib.Core.Path.{_≡_, refl, sym, ap, _∙_, subst}
+use mathlib.Core.Path.{_≡_, refl, sym, ap, _∙_}
 use mathlib.Core.Bool.{Bool, true, false, cond}
-use mathlib.Core.List.{List, [], _∷_}
+use mathlib.Core.List.{List}
 use Prim.Native.Nat.{ℕ, zero, suc, _+_, _*_, _≤_, _<_}
 use native.Mathlib.Omega.{arith}
 use native.Mathlib.Decide.{ℕ-discrete, decLt}
-use borrow.Author.Tests.{lt-ltb, le-ltb, eq-eqb, eqb-false, leb-false}
-use lib.Dec.{eqb, leb, ltb}
-use lib.IntN.{ℤ, pos, negsuc, negℤ}
+use borrow.Author.Tests.{lt-ltb, le-ltb, eq-eqb}
+use lib.Dec.{eqb, ltb}
+use lib.IntN.{ℤ, pos}
 use lib.ListN.{length, getD, set, replicate, length-set, length-replicate}
 use lib.Seq.{getD-set-same, getD-set-other}
 use Rattle.lists.specs.Rows.{num}
 use Rattle.lists.specs.Tests.{within}
 use Rattle.lists.proofs.TestLaws.{pass, within-is, all-of}
-use Rattle.job.specs.Limits.{maxSteps, maxLemmas, maxNames}
+use Rattle.job.specs.Limits.{maxLemmas, maxNames}
 use Rattle.job.specs.Fitness.{itemFits, isZero, placeFits, lengthFits, placesFit, lemmaFits, lemmasFit}
 use Rattle.program.proofs.PutLaws.{Put, put-set, same-at}
 use Rattle.parse.specs.Lemmas.{signed}

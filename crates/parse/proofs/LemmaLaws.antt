@@ -6,7 +6,7 @@ use Prim.Native.Nat.{ℕ, zero, suc, _+_, _-_, _≤_, _<_}
 use native.Mathlib.Omega.{arith}
 use native.Mathlib.Decide.{decLt}
 use native.Mathlib.Numerals.{add-one}
-use borrow.Author.Tests.{eq-eqb, ne-eqb, le-leb, lt-leb}
+use borrow.Author.Tests.{ne-eqb, le-leb, lt-leb}
 use lib.Dec.{eqb, ltb, leb, lit<}
 use lib.IntN.{ℤ, pos, negℤ, _-ℤ_, +ℤ-idl}
 use lib.ListN.{length, getD, drop, take, drop-of-length-le}
@@ -32,7 +32,7 @@ use Rattle.scan.proofs.LineLaws.{lines-at}
 use Rattle.fields.specs.Fields.{numberOf, wholeLine}
 use Rattle.fields.specs.declared.Field.{Field}
 use Rattle.fields.specs.declared.Field.the-variants.{Read, No}
-use Rattle.parse.specs.Answers.{refuse, accept, then, by, pick}
+use Rattle.parse.specs.Answers.{refuse, accept, then, by}
 use Rattle.parse.specs.Lemmas.{word, filled, words, bare, negated, itemAt, itemIn, itemOf, signed, withItem, closed, named, lemma, whole, lemmaLine, lemmaLines}
 use Rattle.parse.specs.declared.Reading.{Reading}
 use Rattle.parse.proofs.AnswerLaws.{Holds, pick-holds, then-holds}

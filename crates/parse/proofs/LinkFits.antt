@@ -1,24 +1,23 @@
 -- A program whose labels are linked, of a draft that is fit so far, is fit.
 use mathlib.Core.Path.{_≡_, refl, sym, ap, _∙_, subst}
 use mathlib.Core.Bool.{Bool, true, false, not, cond}
-use mathlib.Core.List.{List, [], _∷_}
+use mathlib.Core.List.{List}
 use Prim.Native.Nat.{ℕ, zero, suc, _+_, _*_, _-_, _≤_, _<_}
 use native.Mathlib.Omega.{arith}
 use native.Mathlib.Decide.{ℕ-discrete, decLt}
 use borrow.Author.Tests.{lt-ltb, le-ltb, le-leb, eq-eqb}
 use lib.Dec.{eqb, ltb}
-use lib.ListN.{length, set, length-set}
-use lib.Seq.{slice, getD-set-same, getD-set-other}
+use lib.ListN.{length, set}
+use lib.Seq.{slice}
 use Rattle.lists.specs.Rows.{num}
-use Rattle.lists.specs.Tests.{every, all, within}
 use Rattle.lists.proofs.TestLaws.{pass, within-is, all-of}
-use Rattle.job.specs.Limits.{maxSteps, maxBound}
+use Rattle.job.specs.Limits.{maxSteps}
 use Rattle.job.specs.Fitness.{larger, hasOther, isStep, otherFits, variableFits, valueFits, usedStep, unusedStep, mentioned, stepFits, stepsFit, firstOf, bothStart, bothCritical, programFits}
 use Rattle.job.specs.declared.Program.{Program}
 use Rattle.program.specs.declared.Draft.{Draft}
 use Rattle.program.proofs.PutLaws.{Put, put-set}
 use Rattle.program.proofs.DraftFits.{Drafted, mentioned-same, larger-first}
-use Rattle.parse.specs.Labels.{aim, linked, withTo, withOther, enterTo, enterOther, on, thenLink, pickLinked, linkStep, link}
+use Rattle.parse.specs.Labels.{aim, enterTo, enterOther, on, thenLink, pickLinked, linkStep, link}
 use Rattle.parse.specs.declared.Verdict.{Verdict}
 use Rattle.parse.specs.declared.Verdict.the-variants.{Accepted, Refused}
 use Rattle.parse.specs.declared.Target.{Target}

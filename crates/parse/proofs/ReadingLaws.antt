@@ -1,6 +1,5 @@
 -- Laws of reading: one law for each way out, and what the lemma lines begin with.
-use mathlib.Core.Path.{_≡_, refl, sym, ap, _∙_, subst}
-use mathlib.Core.Bool.{Bool, true, false}
+use mathlib.Core.Path.{_≡_, sym, ap, _∙_, subst}
 use mathlib.Core.List.{List}
 use Prim.Native.Nat.{ℕ, _≤_}
 use native.Mathlib.Omega.{arith}

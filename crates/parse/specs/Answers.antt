@@ -1,10 +1,9 @@
 -- The answers of reading: 'a refused job gives one of zeros; every other job is accepted' (document 01, 'Calls and buffers').
 use Prim.Native.Nat.{ℕ, _*_}
 use mathlib.Core.Bool.{Bool, true, false}
-use mathlib.Core.List.{List}
-use lib.IntN.{ℤ, pos}
+use lib.IntN.{pos}
 use lib.ListN.{replicate}
-use Rattle.job.specs.Limits.{maxSteps, maxLemmas, maxNames}
+use Rattle.job.specs.Limits.{maxLemmas, maxNames}
 use Rattle.job.specs.declared.Job.{Job}
 use Rattle.job.specs.declared.Program.{Program}
 use Rattle.program.specs.Draft.{blank}

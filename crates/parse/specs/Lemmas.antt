@@ -5,12 +5,10 @@ use mathlib.Core.List.{List, [], _∷_}
 use lib.Dec.{eqb, leb}
 use lib.IntN.{ℤ, pos, negℤ}
 use lib.ListN.{length, set}
-use Rattle.lists.specs.Rows.{num}
 use Rattle.lists.specs.Tests.{within}
 use Rattle.lists.specs.Pieces.{Pieces, last, piece, cut, starts}
 use Rattle.job.specs.Limits.{maxLemmas, maxNames}
 use Rattle.job.specs.declared.Job.{Job}
-use Rattle.job.specs.declared.Program.{Program}
 use Rattle.scan.specs.Lines.{Row}
 use Rattle.scan.specs.Names.{lookup}
 use Rattle.scan.specs.declared.Found.{Found}
@@ -18,8 +16,7 @@ use Rattle.scan.specs.declared.Found.the-variants.{At, Nothing}
 use Rattle.fields.specs.Fields.{wholeLine}
 use Rattle.fields.specs.declared.Field.{Field}
 use Rattle.fields.specs.declared.Field.the-variants.{Read, No}
-use Rattle.parse.specs.Answers.{refuse, accept, then, by, pick}
-use Rattle.parse.specs.declared.Verdict.{Verdict}
+use Rattle.parse.specs.Answers.{refuse, accept, then, pick}
 use Rattle.parse.specs.declared.Reading.{Reading}
 
 -- ---- words

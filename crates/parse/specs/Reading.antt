@@ -7,7 +7,7 @@ use Rattle.program.specs.Program.{programOf}
 use Rattle.program.specs.declared.Draft.{Draft}
 use Rattle.program.specs.declared.End.{End}
 use Rattle.program.specs.declared.End.the-variants.{Lemmas, Refused}
-use Rattle.parse.specs.Answers.{refuse, then, by}
+use Rattle.parse.specs.Answers.{refuse, then}
 use Rattle.parse.specs.Labels.{atLemmas}
 use Rattle.parse.specs.Lemmas.{lemmaLines}
 use Rattle.parse.specs.declared.Reading.{Reading}

@@ -5,10 +5,10 @@ use mathlib.Core.List.{List}
 use Prim.Native.Nat.{ℕ, zero, suc, _+_, _≤_, _<_}
 use native.Mathlib.Omega.{arith}
 use native.Mathlib.Numerals.{add-one}
-use native.Mathlib.Decide.{ℕ-discrete, decLt}
+use native.Mathlib.Decide.{ℕ-discrete}
 use borrow.Author.Tests.{lt-ltb, le-ltb, leb-false}
-use lib.Dec.{eqb, leb, ltb}
-use lib.ListN.{length, getD, replicate, length-replicate}
+use lib.Dec.{eqb, leb}
+use lib.ListN.{length, length-replicate}
 use lib.Seq.{slice}
 use Rattle.lists.specs.Rows.{num}
 use Rattle.lists.specs.Tests.{within}

@@ -8,7 +8,6 @@ use Rattle.job.specs.Limits.{maxSteps}
 use Rattle.scan.specs.Lines.{Row}
 use Rattle.fields.specs.Fields.{wholeLine}
 use Rattle.fields.specs.Fields.{numberOf as fieldNumber}
-use Rattle.lines.specs.StepLine.{stepLine}
 use Rattle.fields.specs.declared.Field.{Field}
 use Rattle.fields.specs.declared.Field.the-variants.{Read}
 use Rattle.fields.specs.declared.Field.the-variants.{No as NoField}

@@ -1,15 +1,14 @@
 -- The table while its program is read: a step is entered at its line, a variable where it is first mentioned.
 -- L and M stay names, and each step keeps its line, until `lemmas`.
 use Prim.Native.Nat.{ℕ, _+_, _*_}
-use mathlib.Core.Bool.{Bool, true, false, cond}
+use mathlib.Core.Bool.{cond}
 use mathlib.Core.List.{List}
-use lib.Dec.{eqb, leb}
+use lib.Dec.{eqb}
 use lib.ListN.{length, set, replicate}
 use lib.Seq.{slice}
 use Rattle.lists.specs.Rows.{num}
 use Rattle.job.specs.Limits.{maxSteps}
 use Rattle.job.specs.Fitness.{hasVariable, hasOther}
-use Rattle.job.specs.declared.Program.{Program}
 use Rattle.scan.specs.Names.{lookup}
 use Rattle.scan.specs.declared.Found.{Found}
 use Rattle.scan.specs.declared.Found.the-variants.{At, Nothing}

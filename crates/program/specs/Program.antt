@@ -1,8 +1,7 @@
 -- The program part of a text (document 01, 'The job text'): 1, line 1, and then line by line up to `lemmas`.
 use Prim.Native.Nat.{ℕ, _+_}
-use mathlib.Core.Bool.{Bool, true, false, _&&_}
+use mathlib.Core.Bool.{Bool, true, false}
 use mathlib.Core.List.{List, [], _∷_}
-use lib.Dec.{leb}
 use lib.ListN.{length}
 use Rattle.lists.specs.Tests.{within}
 use Rattle.job.specs.Limits.{maxText}
@@ -21,7 +20,6 @@ use Rattle.program.specs.declared.Draft.{Draft}
 use Rattle.program.specs.declared.Next.{Next}
 use Rattle.program.specs.declared.Next.the-variants.{More, No}
 use Rattle.program.specs.declared.Next.the-variants.{Lemmas as AtLemmas}
-use Rattle.program.specs.declared.End.{End}
 use Rattle.program.specs.declared.End.the-variants.{Lemmas, Refused}
 use Rattle.program.specs.declared.Outcome.{Outcome}
 

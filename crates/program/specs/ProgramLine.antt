@@ -12,7 +12,6 @@ use Rattle.lines.specs.StepLine.{stepLine}
 use Rattle.fields.specs.declared.Field.{Field}
 use Rattle.fields.specs.declared.Field.the-variants.{Read}
 use Rattle.fields.specs.declared.Field.the-variants.{No as NoField}
-use Rattle.lines.specs.declared.Step.{Step}
 use Rattle.lines.specs.declared.StepLine.{StepLine}
 use Rattle.lines.specs.declared.StepLine.the-variants.{Line, Refused}
 use Rattle.program.specs.Draft.{addStep}

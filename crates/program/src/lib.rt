@@ -1,6 +1,6 @@
 // The program part of a job text: line 1 and the program lines up to `lemmas`, entered into a draft of the table.
 ghost use mathlib.Core.Path.{_≡_};
-ghost use Prim.Native.Nat.{ℕ, _+_, _*_, _<_, _≤_};
+ghost use Prim.Native.Nat.{_+_, _*_, _<_, _≤_};
 ghost use lib.ListN.{length, drop};
 ghost use lib.Seq.{slice};
 ghost use Rattle.job.specs.Limits.{maxSteps, maxText};

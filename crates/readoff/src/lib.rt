@@ -4,8 +4,6 @@ mod test; // test.rt: 67 and its place
 mod bytes; // bytes.rt: the run's bytes, group by group
 
 ghost use mathlib.Core.Path.{_≡_};
-ghost use lib.ListN.{length};
-ghost use Prim.Native.Nat.{_≤_};
 ghost use Rattle.job.specs.Numbering.{total as Total};
 ghost use Rattle.job.proofs.FitnessLaws.{Sizes};
 ghost use Rattle.readoff.specs.ReadingOff.{readingFit, readingOff};

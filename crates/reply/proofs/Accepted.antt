@@ -1,9 +1,9 @@
 -- A reply is accepted exactly when it is acceptable: `accepted-exactly`. So demand 3 holds of it: its first N bytes satisfy the
 -- clauses and read off as a run.
-use mathlib.Core.Path.{_≡_, refl, sym, ap, _∙_}
+use mathlib.Core.Path.{_≡_, refl, ap}
 use mathlib.Core.Bool.{Bool, true, false, not, cond, false≢true}
 use mathlib.Core.Logic.{_⊎_, inl, inr, _↔_}
-use mathlib.Core.List.{List, [], _∷_, _++_, map}
+use mathlib.Core.List.{List, [], _∷_, map}
 use Prim.Native.Nat.{ℕ, suc, _≤_, _<_}
 use native.Mathlib.Omega.{arith}
 use borrow.Author.Tests.{ltb-true, ltb-false, lt-ltb, le-ltb, eq-eqb, le-leb}
@@ -11,7 +11,7 @@ use lib.Dec.{ltb, leb}
 use lib.ListN.{length, take, drop, length-map}
 use lib.Seq.{take-at}
 use Rattle.lists.specs.Rows.{num}
-use Rattle.lists.specs.Tests.{every, all}
+use Rattle.lists.specs.Tests.{every}
 use Rattle.lists.specs.Places.{passing}
 use Rattle.lists.proofs.Logic.{split}
 use Rattle.lists.proofs.TestLaws.{pass, passed, all-of}

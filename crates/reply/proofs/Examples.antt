@@ -4,7 +4,7 @@ use mathlib.Core.List.{List, [], _∷_}
 use Prim.Native.Nat.{ℕ}
 use lib.IntN.{negsuc}
 use lib.ListN.{replicate}
-use Prim.Native.Char.{Char, code}
+use Prim.Native.Char.{code}
 use Prim.Native.String.{String}
 use Prim.Native.String.{[] as end, _∷_ as _then_}
 use Rattle.lists.specs.Rows.{each}
@@ -20,9 +20,10 @@ use Rattle.job.specs.Satisfaction as satisfaction
 use Rattle.job.specs.OneBit.{oneBit}
 use Rattle.tokens.specs.Numbers.{front, decimal, allowed, unsigned, token}
 use Rattle.reply.specs.Said.{says}
-use Rattle.reply.specs.Lines.{satisfiable, unsatisfiable, opening, sayIn, numbersIn, valueLineIn, valueLinesIn, closing}
+use Rattle.tokens.specs.Kinds.{satisfiable, unsatisfiable}
+use Rattle.reply.specs.Lines.{opening, sayIn, numbersIn, valueLineIn, valueLinesIn, closing}
 use Rattle.reply.specs.Reply.{Read, refusal, values, heardIn, valuesRead}
-use Rattle.reply.specs.Check.{Outcome, accepted, refused, checked}
+use Rattle.reply.specs.Check.{accepted, refused, checked}
 
 unfoldable bytes : String → List ℕ
 bytes end = []

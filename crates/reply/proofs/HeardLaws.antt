@@ -1,9 +1,9 @@
 -- Laws of a whole reply: one for each way out of the code that hears it.
-use mathlib.Core.Path.{_≡_, refl, sym, ap, _∙_}
+use mathlib.Core.Path.{_≡_, refl, ap, _∙_}
 use mathlib.Core.List.{List}
 use Prim.Native.Nat.{ℕ, zero, suc, _≤_}
 use lib.ListN.{length, drop}
-use Rattle.lists.specs.Pieces.{Pieces, cut}
+use Rattle.lists.specs.Pieces.{cut}
 use Rattle.reply.specs.declared.Place.{Place}
 use Rattle.reply.specs.declared.Place.the-variants.{Halt, At}
 use Rattle.reply.specs.Said.{marks}

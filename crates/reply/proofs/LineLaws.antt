@@ -20,12 +20,12 @@ use Rattle.tokens.specs.declared.Kind.{Kind}
 use Rattle.tokens.specs.declared.Kind.the-variants.{Comment, Satisfiable, Unsatisfiable, Values, Other}
 use Rattle.tokens.specs.declared.Word.{Word}
 use Rattle.tokens.specs.Numbers.{token, wordAt}
-use Rattle.tokens.specs.Kinds.{kindOf}
+use Rattle.tokens.specs.Kinds.{satisfiable, unsatisfiable, kindOf}
 use Rattle.tokens.proofs.KindLaws.{other-start, other-line}
 use Rattle.reply.specs.declared.Numbers.{Numbers}
 use Rattle.reply.specs.declared.Numbers.the-variants.{Fault, More, Closed}
 use Rattle.reply.specs.Said.{mark, marks}
-use Rattle.reply.specs.Lines.{comment, satisfiable, unsatisfiable, Opened, stopped, begun, opening, Part, fault, more, goes, halted, told, after, unended, sayIn, numbersIn, valueLineIn, valueLinesIn, closing}
+use Rattle.reply.specs.Lines.{comment, Opened, stopped, begun, opening, Part, fault, more, goes, halted, told, after, unended, sayIn, numbersIn, valueLineIn, valueLinesIn, closing}
 use Rattle.reply.specs.Answers.{partOf}
 
 -- ---- one number

@@ -8,7 +8,7 @@ use Rattle.job.specs.declared.Job.{Job}
 use Rattle.job.specs.Numbering.{total}
 use Rattle.job.specs.Fitness.{fit}
 use Rattle.job.specs.Satisfaction.{satisfies}
-use Rattle.reply.specs.Reply.{Read, values, valuesRead}
+use Rattle.reply.specs.Reply.{values, valuesRead}
 use Rattle.reply.specs.Check.{maxReply, holding}
 
 -- of a fit job, a reply of 01's form that gives each number one value, with every clause true; the buffer then holds the values

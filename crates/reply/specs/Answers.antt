@@ -1,5 +1,5 @@
 -- What the answers of the code mean: number, place and values for each case.
-use mathlib.Core.List.{List, [], _∷_, _++_}
+use mathlib.Core.List.{List, _++_}
 use Prim.Native.Nat.{ℕ, suc, _≤_}
 use lib.ListN.{length, drop}
 use Rattle.lists.specs.Rows.{tab, num}

@@ -1,7 +1,7 @@
 -- Checking a reply (document 01, 'Calls and buffers'): the answer and the whole working buffer, on every input.
 -- 'Order: 45, .. 51, .. 60, then reading order (62 before 63), 64, 65'; 66 is met in reading order.
-use mathlib.Core.Bool.{Bool, true, false, not, cond}
-use mathlib.Core.List.{List, [], _∷_, _++_}
+use mathlib.Core.Bool.{not, cond}
+use mathlib.Core.List.{List, _++_}
 use Prim.Native.Nat.{ℕ}
 use lib.Dec.{ltb}
 use lib.ListN.{length, drop}

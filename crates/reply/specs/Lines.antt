@@ -1,6 +1,6 @@
 -- The lines of a reply (document 01, 'Calls and buffers', Checking): 'Lines that begin `c` are skipped anywhere; then one
 -- `s SATISFIABLE`, then lines of `v` and one or more numbers .. ; a single 0 ends the last; only `c` lines follow.'
-use mathlib.Core.Bool.{Bool, true, false, cond}
+use mathlib.Core.Bool.{Bool, cond}
 use mathlib.Core.List.{List, [], _∷_}
 use Prim.Native.Nat.{ℕ, suc}
 use lib.Dec.{ltb}
@@ -9,19 +9,12 @@ use Rattle.lists.specs.Pieces.{Pieces, last, piece, cut, starts, is}
 use Rattle.tokens.specs.declared.Token.{Token}
 use Rattle.tokens.specs.declared.Token.the-variants.{Bad, Zero, Number}
 use Rattle.tokens.specs.Numbers.{token}
+use Rattle.tokens.specs.Kinds.{satisfiable, unsatisfiable}
 use Rattle.reply.specs.Said.{Store}
 
 -- a line that begins `c`
 abbrev pub comment : List ℕ → Bool
 comment p = starts (99 ∷ []) p
-
--- `s SATISFIABLE`
-abbrev pub satisfiable : List ℕ
-satisfiable = 115 ∷ 32 ∷ 83 ∷ 65 ∷ 84 ∷ 73 ∷ 83 ∷ 70 ∷ 73 ∷ 65 ∷ 66 ∷ 76 ∷ 69 ∷ []
-
--- `s UNSATISFIABLE`
-abbrev pub unsatisfiable : List ℕ
-unsatisfiable = 115 ∷ 32 ∷ 85 ∷ 78 ∷ 83 ∷ 65 ∷ 84 ∷ 73 ∷ 83 ∷ 70 ∷ 73 ∷ 65 ∷ 66 ∷ 76 ∷ 69 ∷ []
 
 -- ---- the first line that is not `c`; k is the number of the line
 

@@ -1,6 +1,6 @@
 -- A whole reply: its values, or the number and place of a refusal of 61 to 64 or 66.
-use mathlib.Core.Bool.{Bool, true, false, cond}
-use mathlib.Core.List.{List, [], _∷_}
+use mathlib.Core.Bool.{cond}
+use mathlib.Core.List.{List, []}
 use Prim.Native.Nat.{ℕ, zero, suc}
 use lib.Dec.{eqb, ltb}
 use Rattle.lists.specs.Rows.{tab}

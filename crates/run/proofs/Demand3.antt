@@ -1,16 +1,14 @@
 -- Demand 3 about what reading off and run to values do: `accurate-calls`, at the end. The statement is specs/Demand3; the run and the
 -- values are those of `accuracy` (crate job), the bytes those of RunBytes.
 use mathlib.Core.Path.{_≡_, refl, sym, ap, _∙_}
-use mathlib.Core.Bool.{Bool, true, false, cond}
-use mathlib.Core.List.{List, [], _∷_, _++_}
+use mathlib.Core.Bool.{true}
+use mathlib.Core.List.{List}
 use Prim.Native.Nat.{ℕ, suc, _+_, _≤_, _<_}
 use native.Mathlib.Omega.{arith}
 use native.Mathlib.Decide.{decLt}
-use borrow.Author.Tests.{lt-ltb, le-ltb, eqb-true}
-use lib.Dec.{ltb}
+use borrow.Author.Tests.{le-ltb, eqb-true}
 use lib.ListN.{length, take, drop}
 use lib.Seq.{take-at, take-all}
-use Rattle.lists.specs.Tests.{every}
 use Rattle.lists.specs.Writing.{write}
 use Rattle.lists.proofs.TestLaws.{passed}
 use Rattle.job.specs.declared.Job.{Job}
@@ -20,16 +18,15 @@ use Rattle.job.specs.Meaning.{Run, isRun}
 use Rattle.job.specs.Numbering.{total}
 use Rattle.job.specs.Fitness.{fit}
 use Rattle.job.specs.Satisfaction.{areValues, satisfies}
-use Rattle.job.specs.ReadOff.{Reading, run, fault, readFault, runRead, readOff, runBytes}
+use Rattle.job.specs.ReadOff.{run, readOff, runBytes}
 use Rattle.job.specs.RunToValues.{runOf, valuesOf, runFault}
-use Rattle.job.specs.Accuracy.{Accurate}
 use Rattle.job.proofs.Accuracy.{accuracy}
 use Rattle.job.proofs.MeaningLaws.{run-is}
 use Rattle.job.proofs.ValueLaws.{length-values}
-use Rattle.readoff.specs.declared.Told.the-variants.{Written, Refused}
-use Rattle.readoff.specs.ReadingOff.{Outcome, refusal, written, named, runLength, readingFit, readingOff}
+use Rattle.readoff.specs.declared.Told.the-variants.{Written}
+use Rattle.readoff.specs.ReadingOff.{Outcome, refusal, written, runLength, readingFit, readingOff}
 use Rattle.readoff.proofs.AnswerLaws.{fit-read}
-use Rattle.values.specs.ToValues.{givingFit, givingValues}
+use Rattle.values.specs.ToValues.{givingValues}
 use Rattle.run.specs.Demand3.{runIn, valuesIn, Room, ThereAndBack, AccurateCalls}
 use Rattle.values.proofs.GivingLaws.{fault-most, breaks, gives, fit-given}
 use Rattle.run.proofs.RunBytes.{length-bytes, run-back, no-fault, fault-free, bytes-back}

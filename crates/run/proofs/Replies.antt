@@ -2,7 +2,7 @@
 -- clauses (crate reply), and of such values Demand3 speaks.
 use mathlib.Core.Path.{_≡_, refl, sym, ap, _∙_}
 use mathlib.Core.Bool.{true}
-use mathlib.Core.List.{List, _++_}
+use mathlib.Core.List.{List}
 use Prim.Native.Nat.{ℕ, _≤_}
 use native.Mathlib.Omega.{arith}
 use lib.ListN.{length, take, drop, length-append}
@@ -12,7 +12,7 @@ use Rattle.job.specs.Meaning.{Run, isRun}
 use Rattle.job.specs.Numbering.{total}
 use Rattle.job.specs.Fitness.{fit}
 use Rattle.job.specs.ReadOff.{runBytes}
-use Rattle.reply.specs.Reply.{Read, values, valuesRead}
+use Rattle.reply.specs.Reply.{values, valuesRead}
 use Rattle.reply.specs.Check.{accepted, maxReply, holding, checked}
 use Rattle.reply.specs.Acceptance.{Acceptable}
 use Rattle.reply.proofs.ReplyLaws.{read-values}

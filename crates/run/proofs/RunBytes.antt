@@ -5,15 +5,13 @@ use mathlib.Core.List.{List, [], _∷_, _++_, map}
 use mathlib.Core.Logic.{_⊎_, inl, inr}
 use Prim.Native.Nat.{ℕ, zero, suc, _+_, _*_, _-_, _≤_, _<_}
 use native.Mathlib.Omega.{arith}
-use native.Mathlib.Nat.{add-assoc}
 use native.Mathlib.Decide.{decLt}
-use borrow.Author.Tests.{lt-ltb, le-ltb, le-leb, leb-true, eqb-true, eq-eqb, ne-eqb, eqb-false}
+use borrow.Author.Tests.{lt-ltb, le-ltb, le-leb, leb-true, eqb-true, eq-eqb, eqb-false}
 use lib.Dec.{eqb, leb, ltb}
-use lib.ListN.{length, getD, take, drop, length-append, length-map, length-take, length-drop, List·getD-append, List·getD-map}
-use lib.Seq.{take-add, take-all, getD-take, getD-drop, getD-at, ext-getD, length-take-le}
-use Rattle.lists.specs.Rows.{each, tab, num}
+use lib.ListN.{length, getD, take, drop, length-append, length-map, length-drop, List·getD-append, List·getD-map}
+use lib.Seq.{take-add, getD-take, getD-drop, getD-at, ext-getD, length-take-le}
+use Rattle.lists.specs.Rows.{each, num}
 use Rattle.lists.specs.Tests.{every, all, within}
-use Rattle.lists.specs.Places.{passing}
 use Rattle.lists.proofs.Logic.{split}
 use Rattle.lists.proofs.RowLaws.{length-rows, length-tab, getD-tab, getD-each, each-same, row-fits}
 use Rattle.lists.proofs.TestLaws.{passed, pass, all-at, all-of, is-within, within-is}
@@ -24,7 +22,7 @@ use Rattle.job.specs.Table.{Process, A, B, m, n, r}
 use Rattle.job.specs.Meaning.{State, Run, pc, bit, nowhere, stateAt, turnAt, holdsAt, isRun}
 use Rattle.job.specs.ReadOff.{byte, turnByte, group, groupLength, runBytes}
 use Rattle.job.specs.RunToValues.{groupByte, stateOf, runOf, bytesFit, runFault}
-use Rattle.job.proofs.MeaningLaws.{state-path, IsState, IsRun, run-is}
+use Rattle.job.proofs.MeaningLaws.{state-path, IsRun}
 use Rattle.readoff.specs.ReadingOff.{runLength}
 use Rattle.values.proofs.RunLaws.{state-at, turn-at}
 

@@ -10,7 +10,6 @@ use Rattle.job.specs.Numbering.{total}
 use Rattle.job.specs.Satisfaction.{satisfies}
 use Rattle.job.specs.ReadOff.{runBytes}
 use Rattle.job.specs.RunToValues.{runOf}
-use Rattle.readoff.specs.declared.Told.{Told}
 use Rattle.readoff.specs.declared.Told.the-variants.{Written}
 use Rattle.readoff.specs.ReadingOff.{Outcome, runLength, readingOff}
 use Rattle.values.specs.ToValues.{givingValues}

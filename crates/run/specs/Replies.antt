@@ -9,8 +9,8 @@ use Rattle.job.specs.declared.Job.{Job}
 use Rattle.job.specs.Meaning.{Run, isRun}
 use Rattle.job.specs.Numbering.{total}
 use Rattle.job.specs.ReadOff.{runBytes}
-use Rattle.reply.specs.Reply.{Read, values, valuesRead}
-use Rattle.reply.specs.Check.{Outcome, accepted, maxReply, holding, checked}
+use Rattle.reply.specs.Reply.{values, valuesRead}
+use Rattle.reply.specs.Check.{accepted, maxReply, holding, checked}
 use Rattle.readoff.specs.declared.Told.the-variants.{Written}
 use Rattle.readoff.specs.ReadingOff.{readingOff}
 use Rattle.values.specs.ToValues.{givingValues}

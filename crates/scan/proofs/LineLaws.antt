@@ -1,8 +1,8 @@
 -- Laws of lines: the first line of what is left of a text, and the end of the text.
 use mathlib.Core.Path.{_≡_, refl, sym, ap, _∙_}
-use mathlib.Core.Bool.{Bool, true, false}
+use mathlib.Core.Bool.{false}
 use mathlib.Core.List.{List, [], _∷_}
-use Prim.Native.Nat.{ℕ, suc, _+_, _-_, _≤_, _<_}
+use Prim.Native.Nat.{ℕ, _+_, _-_, _≤_, _<_}
 use native.Mathlib.Omega.{arith}
 use native.Mathlib.Decide.{ℕ-discrete}
 use borrow.Author.Tests.{lt-ltb, le-ltb}
@@ -12,7 +12,7 @@ use lib.Seq.{slice, length-slice, take-length}
 use Rattle.lists.specs.Pieces.{last, cut, upTo}
 use Rattle.lists.proofs.PieceLaws.{length-upTo, take-upTo, rest-last, rest-piece}
 use Rattle.scan.specs.Bytes.{wordAt}
-use Rattle.scan.specs.Lines.{Row, row, rows, lines}
+use Rattle.scan.specs.Lines.{row, rows, lines}
 use Rattle.scan.proofs.WordLaws.{word-part}
 
 -- a last piece that is not empty is a line without LF

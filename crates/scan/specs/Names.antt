@@ -3,7 +3,6 @@ use Prim.Native.Nat.{ℕ, _+_, _*_}
 use mathlib.Core.Bool.{Bool, true, false}
 use mathlib.Core.List.{List}
 use lib.Dec.{eqb, ltb}
-use lib.ListN.{getD}
 use Rattle.lists.specs.Rows.{num}
 use Rattle.lists.specs.Tests.{all}
 use Rattle.lists.specs.Places.{first}

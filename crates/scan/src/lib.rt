@@ -1,6 +1,6 @@
 // Bytes, lines, words and the scan for a name. Every function is total: past its end a text has zeros.
 ghost use mathlib.Core.Path.{_≡_};
-ghost use Prim.Native.Nat.{ℕ, _+_, _*_, _<_};
+ghost use Prim.Native.Nat.{_+_, _*_, _<_};
 ghost use lib.ListN.{length, drop};
 ghost use lib.Seq.{slice};
 ghost use Rattle.lists.specs.Rows.{num};

@@ -1,5 +1,5 @@
 -- `lemma_end` is the definition's own choice at the line's end: 42 where there is no name, else the lemma is counted.
-use mathlib.Core.Path.{_≡_, sym, ap, _∙_}
+use mathlib.Core.Path.{sym, ap, _∙_}
 use mathlib.Core.List.{[]}
 use Prim.Native.Nat.{ℕ}
 use borrow.Author.Needs.{needs}

@@ -3,7 +3,7 @@ use Rattle.job.specs.declared.Job.{Job}
 use Rattle.parse.proofs.LemmaLaws.{lines-none, lines-turn, line-same}
 use Rattle.parse.proofs.AnswerLaws.{Holds, holds-of, goes-on, ends-here}
 use Rattle.parse.specs.declared.Reading.{Reading}
-use Rattle.parse.specs.Lemmas.{lemmaLine, lemmaLines}
+use Rattle.parse.specs.Lemmas.{lemmaLines}
 use Rattle.parse.specs.Answers.{then}
 use Rattle.program.proofs.ProgramLaws.{line-within}
 use Rattle.scan.proofs.LineLaws.{lines-out}

@@ -1,5 +1,5 @@
 -- A part of at most eight bytes is its own first eight, and any other's first eight end eight bytes on.
-use mathlib.Core.Path.{_≡_, sym}
+use mathlib.Core.Path.{sym}
 use native.Mathlib.Omega.{arith}
 use borrow.Author.Needs.{needs}
 use lib.Seq.{slice, length-slice, take-all}

@@ -1,6 +1,5 @@
 -- A line that begins `s` is one of the two, or none of the kinds.
 use mathlib.Core.Path.{sym, _∙_}
-use native.Mathlib.Omega.{arith}
 use borrow.Author.Needs.{needs}
 use Rattle.tokens.proofs.KindLaws.{a-satisfiable, an-unsatisfiable, nothing-said}
 use Rattle.tokens.proofs.said_at.Statement.{statement}
