@@ -1,4 +1,4 @@
-"""The two proved programs, built where one is missing or older than the sources."""
+"""The proved programs, built where one is missing or older than the sources."""
 import os
 import shutil
 import signal
@@ -7,7 +7,7 @@ import sys
 import threading
 import time
 
-PROGRAMS = ["sat_mutex", "show_run"]
+PROGRAMS = ["sat_mutex", "show_run", "file_job"]
 
 
 class Failed(Exception):
@@ -103,7 +103,7 @@ def build(root, folder, say):
     if not rt:
         raise Failed("the programs are not built yet, and rt, the Rattle toolchain that proves and builds them, is not on the PATH")
     if not there:
-        say("Building the two programs. Their proofs are checked first; that takes some minutes, once.")
+        say("Building the programs. Their proofs are checked first; that takes some minutes, once.")
     status, details = prove(root)
     if status:
         raise Failed("\n".join(["the programs could not be built", *details]))

@@ -1,0 +1,128 @@
+// The lemma lines in order, each made in an array of its own.
+ghost use mathlib.Core.Path.{_≡_};
+ghost use mathlib.Core.List.{[], map};
+ghost use Prim.Native.Nat.{_+_, _*_, _≤_, _<_};
+ghost use lib.Dec.{ltb};
+ghost use lib.ListN.{length, take};
+ghost use Rattle.lists.specs.Writing.{write};
+ghost use Rattle.job.specs.Limits.{maxLemmas};
+ghost use Rattle.order.specs.Sorting.{sort, keep, fromLeft};
+ghost use Rattle.text.specs.Put.{Put};
+ghost use Rattle.filing.specs.Keys.{keyReach, itemOfKey, signText, itemText, gapText, wordText, lineText, linesText};
+ghost use Rattle.filing.specs.Row.{keysOf, Fit, AllFit};
+use super::Row;
+use super::put::put_byte;
+use super::put::put_name;
+use super::put::put_part;
+use super::rows::next_row;
+use super::rows::none;
+use job::Job;
+
+// The item of a key, counted from 0.
+fn item(k: u32) -> usize
+    ensures { λ r. ⌜ (r ≡ itemOfKey k) × (r < keyReach) ⌝ }
+{
+    if k < 2 { 0 } else { k as usize / 2 - 1 }
+}
+
+// `~` where the key is a negated name's.
+fn put_sign(out: &mut [u8], at: usize, k: u32) -> usize
+    requires { ⌜ at + 1 ≤ length (now out) ⌝ }
+    ensures { λ r. ⌜ Put 1 (now (out .entry)) at (signText k) r (now (out .exit)) ⌝ }
+{
+    if k % 2 == 0 {
+        return at;
+    }
+    put_byte(out, at, b'~')
+}
+
+// The name of item x: of m steps, then variables.
+fn put_item<'a>(
+    out: &mut [u8],
+    at: usize,
+    labels: &'a [u8],
+    names: &'a [u8],
+    m: usize,
+    x: usize,
+) -> usize
+    requires { ⌜ (at + 4 ≤ length (now out)) × (x < keyReach) ⌝ }
+    ensures { λ r. ⌜ Put 4 (now (out .entry)) at (itemText (now (labels .entry)) (now (names .entry)) m x) r (now (out .exit)) ⌝ }
+{
+    if x < m {
+        return put_name(out, at, labels, x);
+    }
+    put_name(out, at, names, x - m)
+}
+
+// One space between names.
+fn put_gap(out: &mut [u8], at: usize, i: usize) -> usize
+    requires { ⌜ at + 1 ≤ length (now out) ⌝ }
+    ensures { λ r. ⌜ Put 1 (now (out .entry)) at (gapText i) r (now (out .exit)) ⌝ }
+{
+    if i == 0 {
+        return at;
+    }
+    put_byte(out, at, b' ')
+}
+
+// Name i of a lemma, behind the names before it.
+fn put_word<'a>(
+    out: &mut [u8],
+    at: usize,
+    labels: &'a [u8],
+    names: &'a [u8],
+    m: usize,
+    i: usize,
+    k: u32,
+) -> usize
+    requires { ⌜ at + 6 ≤ length (now out) ⌝ }
+    ensures { λ r. ⌜ Put 6 (now (out .entry)) at (wordText (now (labels .entry)) (now (names .entry)) m i k) r (now (out .exit)) ⌝ }
+{
+    let a = put_gap(&mut *out, at, i);
+    let b = put_sign(&mut *out, a, k);
+    put_item(out, b, labels, names, m, item(k))
+}
+
+// The line of a row, with its LF.
+fn put_line<'a>(line: &mut [u8], labels: &'a [u8], names: &'a [u8], m: usize, row: Row) -> usize
+    requires { ⌜ (row .len * 6 + 1 ≤ length (now line)) × Fit row ⌝ }
+    ensures { λ r. ⌜ Put (row .len * 6 + 1) (now (line .entry)) 0 (lineText (now (labels .entry)) (now (names .entry)) m (keysOf row)) r (now (line .exit)) ⌝ }
+{
+    let mut end: usize = 0;
+    let mut i: usize = 0;
+    while i < row.len {
+        end = put_word(&mut *line, end, labels, names, m, i, row.keys[i]);
+        i += 1;
+    }
+    put_byte(line, end, 10)
+}
+
+// The rows in order, a line each, from place at on.
+pub(crate) fn put_rows<'a>(
+    out: &mut [u8],
+    at: usize,
+    labels: &'a [u8],
+    names: &'a [u8],
+    m: usize,
+    rows: [Row; Job::LEMMAS],
+    count: usize,
+) -> usize
+    requires { ⌜ (count ≤ maxLemmas) × AllFit (take count rows) × (at + length (linesText (now labels) (now names) m (sort (fromLeft ltb) (keep (fromLeft ltb []) (map keysOf (take count rows))))) ≤ length (now out)) ⌝ }
+    ensures { λ r. ⌜ (r ≡ at + length (linesText (now (labels .entry)) (now (names .entry)) m (sort (fromLeft ltb) (keep (fromLeft ltb []) (map keysOf (take count rows)))))) × (now (out .exit) ≡ write (now (out .entry)) at (linesText (now (labels .entry)) (now (names .entry)) m (sort (fromLeft ltb) (keep (fromLeft ltb []) (map keysOf (take count rows)))))) ⌝ }
+{
+    let mut line = [0u8; 6 * Job::NAMES + 1];
+    let mut last = none();
+    let mut end = at;
+    let mut left = count;
+    while 0 < left {
+        let row = next_row(rows, count, last);
+        if row.len == 0 {
+            return end;
+        }
+        let n = put_line(&mut line, labels, names, m, row);
+        end = put_part(&mut *out, end, &line[..n]);
+        last = row;
+        left -= 1;
+    }
+    end
+}

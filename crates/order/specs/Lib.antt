@@ -1,0 +1,2 @@
+-- Sorting without repeats, and the order of lists from the left.
+pub mod Sorting
