@@ -1,4 +1,4 @@
-"""The proved checker, reading off and run to values of crate `foreign`, for Python."""
+"""The proved checker, reading off and run to values of crate `foreign`, and filing of crate `file_ffi`, for Python."""
 import ctypes
 import glob
 import os
@@ -7,19 +7,23 @@ import tempfile
 
 import tables
 
-ARCHIVE = "target/staticlib/libforeign.a"
+GUARD = b"\5" * 8
 
 
 class Answer(ctypes.Structure):
     _fields_ = [("accepted", ctypes.c_bool), ("number", ctypes.c_uint8), ("place", ctypes.c_size_t)]
 
 
-def archive():
-    """The static library, built where it is missing or older than a crate."""
-    path = os.path.join(tables.ROOT, ARCHIVE)
+class FormAnswer(ctypes.Structure):
+    _fields_ = [*Answer._fields_, ("length", ctypes.c_size_t)]
+
+
+def archive(crate):
+    """The crate's static library, built where it is missing or older than a crate."""
+    path = os.path.join(tables.ROOT, f"target/staticlib/lib{crate}.a")
     sources = glob.glob(os.path.join(tables.ROOT, "crates/**/*.*"), recursive=True)
     if not os.path.exists(path) or os.path.getmtime(path) < max(map(os.path.getmtime, sources)):
-        subprocess.run(["rt", "staticlib", "foreign"], cwd=tables.ROOT, check=True, stdout=subprocess.DEVNULL, stderr=subprocess.DEVNULL)
+        subprocess.run(["rt", "staticlib", crate], cwd=tables.ROOT, check=True, stdout=subprocess.DEVNULL, stderr=subprocess.DEVNULL)
     return path
 
 
@@ -31,8 +35,8 @@ def shared(*words):
         return ctypes.CDLL(path)
 
 
-def proved():
-    return shared("-Wl,--whole-archive", archive(), "-Wl,--no-whole-archive")
+def proved(crate="foreign"):
+    return shared("-Wl,--whole-archive", archive(crate), "-Wl,--no-whole-archive")
 
 
 def call(library, name):
@@ -45,5 +49,26 @@ def call(library, name):
         written = ctypes.create_string_buffer(buffer, len(buffer) + 1)
         a = function(table, read, len(read), written, len(buffer))
         return 0 if a.accepted else a.number, a.place, written.raw[: len(buffer)]
+
+    return answer
+
+
+def filing():
+    """The call of C itself: a text and its length, a buffer and its length."""
+    function = proved("file_ffi").file_job
+    function.argtypes = [ctypes.c_char_p, ctypes.c_size_t] * 2
+    function.restype = FormAnswer
+    return function
+
+
+def filer():
+    """Filing, which takes a text and the buffer that it writes; it gives number (0: none), place, length and the buffer."""
+    function = filing()
+
+    def answer(text, buffer):
+        written = ctypes.create_string_buffer(buffer + GUARD, len(buffer) + len(GUARD))
+        a = function(text, len(text), written, len(buffer))
+        assert written.raw[len(buffer) :] == GUARD
+        return 0 if a.accepted else a.number, a.place, a.length, written.raw[: len(buffer)]
 
     return answer

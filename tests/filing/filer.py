@@ -1,4 +1,5 @@
 """A second filer, written from document 02 alone (S-1). It works on the text's own words; only the refusals are the second reader's."""
+import functools
 import os
 import sys
 
@@ -6,6 +7,7 @@ sys.path.insert(0, os.path.join(os.path.dirname(os.path.abspath(__file__)), "../
 import reader
 
 
+@functools.lru_cache(16)
 def parts(text):
     """Line 1, the step lines in order, and the lemma lines. A job that is turned away raises reader.Refused."""
     reader.read(text)
@@ -30,6 +32,7 @@ def items(steps):
     return {name: item for item, name in enumerate(names)}
 
 
+@functools.lru_cache(16)
 def remaining(text):
     """The lemmas that remain, as a set of sets of items with their signs."""
     _, steps, lemmas = parts(text)

@@ -1,34 +1,21 @@
--- Laws of the call's answer: one for each of its ways, and what an accepted text's table says of its lemmas.
-use mathlib.Core.Path.{_≡_, ap, _∙_}
-use mathlib.Core.Bool.{true, false}
+-- Laws of the call's answer, one for each of its ways, and of an accepted text's table.
+use mathlib.Core.Path.{_≡_}
+use mathlib.Core.Bool.{true}
 use mathlib.Core.List.{List}
 use Prim.Native.Nat.{ℕ, _≤_, _<_}
 use borrow.Author.Tests.{lt-ltb, le-ltb}
 use lib.ListN.{length}
-use Rattle.lists.proofs.TestLaws.{passed}
 use Rattle.job.specs.Fitness.{fit}
-use Rattle.job.specs.Limits.{maxLemmas}
-use Rattle.job.specs.declared.Job.{Job}
 use Rattle.job.specs.declared.Refusal.{Refusal}
-use Rattle.job.proofs.FitnessLaws.{fit-lemmas, lemma-is}
 use Rattle.parse.specs.Reading.{reading}
 use Rattle.parse.specs.declared.Reading.{Reading}
 use Rattle.parse.specs.declared.Verdict.the-variants.{Accepted}
 use Rattle.parse.specs.declared.Verdict.the-variants.{Refused as Denied}
-use Rattle.parse.proofs.AcceptedFit.{accepted-fit}
-use Rattle.filing.specs.Form.{form}
-use Rattle.filing.specs.Filing.{Outcome, refused, written, filing}
-use Rattle.filing.specs.Row.{Sized}
-use Rattle.filing.proofs.OneForm.{one-form}
-
--- ---- a fit table's lemmas
-
-sized : (J : Job) → fit J ≡ true → Sized (J .lengths) (J .lemmas)
-unfolding fit
-sized J h k l =
-    let (_, (_, (f, _))) = passed _ h in
-    let s = lemma-is (J .lengths) (J .items) (J .lemmas) _ (fit-lemmas J h) f k l in
-    (s .0, s .1)
+use Rattle.parse.proofs.AcceptedFit.{accepted-fit, accepted-items}
+use Rattle.form.specs.Form.{form}
+use Rattle.form.proofs.OneForm.{one-form}
+use Rattle.filing.specs.Row.{Whole}
+use Rattle.filing.specs.Filing.{refused, written, filing}
 
 -- ---- the ways of the call: r is what reading gives
 
@@ -37,14 +24,11 @@ module _ (text buffer : List ℕ) (r : Reading) (e : r ≡ reading text) where
     is-job : reading text .verdict ≡ Accepted
     is-job = rw e at a
 
-    fits : fit (r .job) ≡ true
-    fits = rw e (accepted-fit text is-job)
+    pub job-fits : fit (r .job) ≡ true
+    job-fits = rw e (accepted-fit text is-job)
 
-    pub few-lemmas : r .job .lemmas ≤ maxLemmas
-    few-lemmas = fit-lemmas (r .job) fits
-
-    pub sized-lemmas : Sized (r .job .lengths) (r .job .lemmas)
-    sized-lemmas = sized (r .job) fits
+    pub job-whole : Whole (r .job .items)
+    job-whole = rw e (accepted-items text is-job)
 
     pub never-grows : length (form text (r .job)) ≤ length text
     never-grows = rw e (one-form text is-job .no-longer)

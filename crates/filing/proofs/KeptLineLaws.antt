@@ -13,8 +13,8 @@ use Rattle.scan.specs.Bytes.{wordAt}
 use Rattle.scan.specs.Lines.{lines}
 use Rattle.scan.proofs.LineLaws.{lines-at, lines-out}
 use Rattle.program.specs.ProgramLine.{isLemmas, isComment}
-use Rattle.filing.specs.Form.{kept, ended}
-use Rattle.filing.specs.Keys.{keptText}
+use Rattle.form.specs.Form.{kept, ended}
+use Rattle.filing.specs.KeptText.{keptText}
 
 -- ---- one line
 

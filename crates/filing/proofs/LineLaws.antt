@@ -1,16 +1,15 @@
 -- Laws of a lemma's line: its parts, and its names one behind the other.
-use mathlib.Core.Path.{_≡_, refl, sym, ap, _∙_}
-use mathlib.Core.Bool.{true, false}
+use mathlib.Core.Path.{_≡_, refl, ap}
 use mathlib.Core.List.{List, [], _∷_, _++_}
-use Prim.Native.Nat.{ℕ, zero, suc, _+_, _*_, _%_, _-_, _≤_, _<_}
+use Prim.Native.Nat.{ℕ, zero, suc, _+_, _%_, _-_, _≤_, _<_}
 use native.Mathlib.Omega.{arith}
 use borrow.Author.Tests.{eq-eqb, ne-eqb, lt-ltb, le-ltb}
 use lib.Dec.{ltb}
 use lib.ListN.{length}
 use Rattle.lists.specs.Rows.{each, num}
-use Rattle.text.specs.Put.{Put}
-use Rattle.text.specs.RunText.{nameAt}
-use Rattle.text.proofs.PutLaws.{put-none, put-most}
+use Rattle.put.specs.Names.{nameAt}
+use Rattle.put.specs.Put.{Put}
+use Rattle.put.proofs.PutLaws.{put-none, put-most}
 use Rattle.order.specs.Sorting.{fromLeft}
 use Rattle.filing.specs.Selection.{nearest}
 use Rattle.filing.proofs.SelectionLaws.{after, after-next, after-none, empty}

@@ -14,7 +14,7 @@ use Rattle.parse.specs.declared.Verdict.the-variants.{Refused as Denied}
 use Rattle.parse.specs.Reading.{reading}
 use Rattle.filing.specs.declared.Filed.{Filed}
 use Rattle.filing.specs.declared.Filed.the-variants.{Length, Refused}
-use Rattle.filing.specs.Form.{form}
+use Rattle.form.specs.Form.{form}
 
 -- a call's answer, and what its buffer holds then
 pub record Outcome : Type 0 where

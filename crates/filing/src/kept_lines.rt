@@ -4,11 +4,11 @@ ghost use Prim.Native.Nat.{_+_, _≤_};
 ghost use lib.ListN.{length};
 ghost use Rattle.lists.specs.Writing.{write};
 ghost use Rattle.scan.specs.Lines.{lines};
-ghost use Rattle.text.specs.Put.{Put};
-ghost use Rattle.filing.specs.Form.{kept, ended};
-ghost use Rattle.filing.specs.Keys.{keptText};
-use super::put::put_byte;
-use super::put::put_part;
+ghost use Rattle.put.specs.Put.{Put};
+ghost use Rattle.form.specs.Form.{kept, ended};
+ghost use Rattle.filing.specs.KeptText.{keptText};
+use put::put_byte;
+use put::put_part;
 
 // The line with its LF, and nothing of a comment.
 fn put_line(out: &mut [u8], at: usize, line: &[u8]) -> usize

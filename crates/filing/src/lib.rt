@@ -1,26 +1,26 @@
 // Writing a job in its filing form (document 02, S-1).
 mod keys; // keys.rt: a lemma's names as keys
-mod sorting; // sorting.rt: the keys of a lemma in order
-mod rows; // rows.rt: the lemmas that remain, and the next one in order
-mod put; // put.rt: bytes and names put behind others
+mod sorting; // sorting.rt: the names of each lemma in order, at its place
+mod rows; // rows.rt: the next lemma in order
 mod lemma_lines; // lemma_lines.rt: the lemma lines in order
 mod kept_lines; // kept_lines.rt: the lines up to `lemmas`
 
 ghost use mathlib.Core.Path.{_≡_};
+ghost use mathlib.Core.Bool.{true};
 ghost use Prim.Native.Nat.{_≤_};
 ghost use lib.ListN.{length};
 ghost use Rattle.lists.specs.Writing.{write};
-ghost use Rattle.job.specs.Limits.{maxLemmas};
-ghost use Rattle.filing.specs.Form.{form};
+ghost use Rattle.job.specs.Fitness.{fit};
+ghost use Rattle.form.specs.Form.{form};
 ghost use Rattle.filing.specs.Filing.{filing};
-ghost use Rattle.filing.specs.Row.{Sized};
+ghost use Rattle.filing.specs.Row.{Whole};
 use job::Job;
 use job::Refusal;
 use kept_lines::put_kept;
 use lemma_lines::put_rows;
 use parse::Verdict;
 use put::put_part;
-use rows::rows_of;
+use sorting::file_rows;
 
 // The length of the filing form, or a refusal.
 pub enum Filed {
@@ -33,21 +33,33 @@ impl Filed {
     pub const BUFFER_SHORT: u8 = 51;
 }
 
-// A lemma as the keys of its names, of which the first len count.
-pub struct Row {
-    pub len: usize,
-    pub keys: [u32; Job::NAMES],
+// A lemma's place among the table's items, and how many names it has.
+struct Row {
+    at: usize,
+    len: usize,
 }
 
-fn put_form(text: &[u8], j: Job, out: &mut [u8]) -> usize
-    requires { ⌜ (j .lemmas ≤ maxLemmas) × Sized (j .lengths) (j .lemmas) × (length (form (now text) j) ≤ length (now out)) ⌝ }
+// The table's own items are put in order.
+fn put_form(text: &[u8], mut j: Job, out: &mut [u8]) -> usize
+    requires { ⌜ (fit j ≡ true) × Whole (j .items) × (length (form (now text) j) ≤ length (now out)) ⌝ }
     ensures { λ r. ⌜ (r ≡ length (form (now (text .entry)) j)) × (now (out .exit) ≡ write (now (out .entry)) 0 (form (now (text .entry)) j)) ⌝ }
 {
     let own = j.program;
+    let count = j.lemmas;
+    let lengths = j.lengths;
     let a = put_kept(&mut *out, text);
     let b = put_part(&mut *out, a, b"lemmas\n");
-    let rows = rows_of(&j.lengths, &j.items, j.lemmas);
-    put_rows(out, b, &j.labels, &j.names, own.steps, rows, j.lemmas)
+    let filed = file_rows(&mut j.items, lengths, count);
+    put_rows(
+        out,
+        b,
+        &j.labels,
+        &j.names,
+        own.steps,
+        &j.items,
+        &filed,
+        count,
+    )
 }
 
 // The filing form of a job text goes to the front of a buffer as long as the text.

@@ -1,5 +1,6 @@
 -- The proof of demand 3 (start at Accuracy) and of the marked cases, and the laws of the definitions.
 pub mod Good
+pub mod SignLaws
 pub mod FitnessLaws
 pub mod SatLaws
 pub mod ExclusionLaws

@@ -2,11 +2,11 @@
 use mathlib.Core.Path.{_≡_, subst}
 use mathlib.Core.Bool.{true, false}
 use mathlib.Core.List.{List, [], _∷_}
-use Prim.Native.Nat.{ℕ, _+_}
+use Prim.Native.Nat.{ℕ, _+_, _*_}
 use native.Mathlib.Omega.{arith}
 use borrow.Author.Tests.{le-leb, leb-false, eqb-false}
 use lib.Dec.{eqb, leb, ltb}
-use lib.ListN.{drop}
+use lib.ListN.{drop, length}
 use Rattle.lists.proofs.TestLaws.{pass}
 use Rattle.job.specs.Limits.{maxLemmas, maxNames}
 use Rattle.job.specs.Fitness.{firstOf, bothCritical, programFits, fit}
@@ -123,6 +123,10 @@ reading-ready text = go (programOf text .end) (programOf text .draft) (reached-d
 
 pub accepted-fit : (text : List ℕ) → reading text .verdict ≡ Accepted → fit (reading text .job) ≡ true
 accepted-fit text e = ready-fits (reading text .job) (holds-of Ready (reading text) (reading-ready text) e)
+
+-- the table has a place for each name of each lemma
+pub accepted-items : (text : List ℕ) → reading text .verdict ≡ Accepted → length (reading text .job .items) ≡ maxLemmas * maxNames
+accepted-items text e = holds-of Ready (reading text) (reading-ready text) e .lemmas .items-size
 
 -- demand 3 of texts: its clauses and its runs, of every text that is accepted
 pub accepted-accurate : (text : List ℕ) → reading text .verdict ≡ Accepted → Accurate (reading text .job)

@@ -17,10 +17,10 @@ use Rattle.lists.proofs.WritingLaws.{length-write, write-none, write-more}
 use Rattle.scan.specs.Bytes.{wordAt}
 use Rattle.scan.specs.Lines.{rows, lines}
 use Rattle.scan.proofs.LineLaws.{lines-at, lines-out}
+use Rattle.put.specs.Put.{Put}
 use Rattle.program.specs.ProgramLine.{isLemmas, isComment}
 use Rattle.text.specs.Numerals.{lf}
 use Rattle.text.specs.Comments.{remark, remarks, comments}
-use Rattle.text.specs.Put.{Put}
 
 -- ---- one line
 

@@ -11,6 +11,7 @@ use Rattle.lists.specs.Pieces.{cut, starts}
 use Rattle.job.specs.OneBit.{oneBit}
 use Rattle.scan.specs.Lines.{lines, rows}
 use Rattle.program.specs.ProgramLine.{isLemmas, isComment}
+use Rattle.put.specs.Names.{nameAt}
 use Rattle.text.specs.Comments.{remarks, comments}
 use Rattle.text.specs.Comments as Comments
 use Rattle.text.specs.Numerals.{digitsBelow, numeral}
@@ -18,7 +19,7 @@ use Rattle.text.specs.Dimacs.{told, numberText}
 use Rattle.text.specs.Texts.{fitting, texted, withTexts}
 use Rattle.text.specs.Whole.{withText}
 use Rattle.text.specs.Lines.{sentence, header, refused}
-use Rattle.text.specs.RunText.{nameAt, turnText, stepsText, lineText, runLine, runLines}
+use Rattle.text.specs.RunText.{turnText, stepsText, lineText, runLine, runLines}
 
 -- `0`, LF; `-2147483648`; `2147483647`
 zero : told (pos 0) ≡ 48 ∷ 10 ∷ []

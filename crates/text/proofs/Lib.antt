@@ -4,9 +4,7 @@ pub mod DigitLaws
 pub mod SignLaws
 pub mod ToldLaws
 pub mod TextsLaws
-pub mod PutLaws
 pub mod WholeLaws
-pub mod NameLaws
 pub mod GroupLaws
 pub mod CommentLaws
 pub mod Examples

@@ -6,4 +6,3 @@ pub mod Whole
 pub mod Lines
 pub mod RunText
 pub mod Comments
-pub mod Put

@@ -3,18 +3,14 @@ use mathlib.Core.Bool.{cond}
 use mathlib.Core.List.{List, [], _∷_, _++_}
 use Prim.Native.Nat.{ℕ, suc, _+_, _*_, _-_}
 use lib.Dec.{eqb, leb}
-use Rattle.lists.specs.Rows.{each, tab, num}
+use Rattle.lists.specs.Rows.{each, num}
 use Rattle.lists.specs.Tests.{every}
-use Rattle.lists.specs.Places.{first}
 use Rattle.job.specs.declared.Job.{Job}
 use Rattle.job.specs.Limits.{maxBound, maxSteps}
 use Rattle.job.specs.Table.{n, r}
 use Rattle.job.specs.RunToValues.{groupByte}
+use Rattle.put.specs.Names.{nameAt}
 use Rattle.text.specs.Numerals.{lf, space, equals, numeral}
-
--- name k of a table, counted from 0: four bytes, filled up with zeros
-unfoldable pub nameAt : List ℕ → ℕ → List ℕ
-nameAt names k = tab (first 4 λ j. eqb (num names (k * 4 + j)) 0) λ j. num names (k * 4 + j)
 
 -- a name behind a space
 abbrev pub word : List ℕ → ℕ → List ℕ

@@ -4,11 +4,11 @@ ghost use Prim.Native.Nat.{_+_, _≤_};
 ghost use lib.Dec.{leb};
 ghost use lib.ListN.{length, drop};
 ghost use Rattle.lists.specs.Writing.{write};
-ghost use Rattle.text.specs.Put.{Put};
+ghost use Rattle.put.specs.Put.{Put};
 ghost use Rattle.text.specs.Comments.{remark, remarks};
 ghost use Rattle.scan.specs.Lines.{lines};
-use super::put::put_byte;
-use super::put::put_part;
+use put::put_byte;
+use put::put_part;
 
 fn remark_length(line: &[u8]) -> usize
     ensures { λ r. ⌜ r ≡ length (remark (now (line .entry))) ⌝ }

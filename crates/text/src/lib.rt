@@ -1,7 +1,7 @@
 // What the programs print (document 01, 'A job in full'), made in lent buffers.
 mod numeral; // numeral.rt: numbers in decimal
 mod told; // told.rt: one number of a clause
-mod put; // put.rt: the parts of a line
+mod sentence; // sentence.rt: a number in a line, and a line of two numbers
 mod run; // run.rt: the lines of a run
 mod comments; // comments.rt: the comments of a job text
 
@@ -18,8 +18,8 @@ use comments::remarks_fit;
 use job::Job;
 use job::Refusal;
 use put::put_part;
-use put::put_sentence;
 use run::put_lines;
+use sentence::put_sentence;
 use told::put_told;
 use told::told_length;
 

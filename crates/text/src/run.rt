@@ -2,35 +2,19 @@
 ghost use mathlib.Core.Path.{_≡_};
 ghost use Prim.Native.Nat.{suc, _+_, _*_, _-_, _≤_, _<_};
 ghost use lib.ListN.{length};
+ghost use Rattle.put.specs.Put.{Put};
 ghost use Rattle.text.specs.Texts.{texted, withTexts};
-ghost use Rattle.text.specs.Put.{Put};
-ghost use Rattle.text.specs.RunText.{nameAt, word, bitText, bitsText, turnText, stepsText, lineText, groupOf};
+ghost use Rattle.text.specs.RunText.{word, bitText, bitsText, turnText, stepsText, lineText, groupOf};
 ghost use Rattle.job.specs.Limits.{maxSteps, maxBound};
 use super::Texted;
-use super::put::put_byte;
-use super::put::put_number;
-use super::put::put_part;
+use super::sentence::put_number;
 use job::Job;
-
-// Name k of a table, up to its first 0.
-fn put_name(out: &mut [u8], at: usize, names: &[u8], k: usize) -> usize
-    requires { ⌜ (at + 4 ≤ length (now out)) × (k < 256) ⌝ }
-    ensures { λ r. ⌜ Put 4 (now (out .entry)) at (nameAt (now (names .entry)) k) r (now (out .exit)) ⌝ }
-{
-    let mut i: usize = 0;
-    while i < 4 {
-        let b = scan::byte_at(names, k * 4 + i);
-        if b == 0 {
-            return at + i;
-        }
-        out[at + i] = b;
-        i += 1;
-    }
-    at + i
-}
+use put::put_byte;
+use put::put_name;
+use put::put_part;
 
 fn put_word(out: &mut [u8], at: usize, names: &[u8], k: usize) -> usize
-    requires { ⌜ (at + 5 ≤ length (now out)) × (k < 256) ⌝ }
+    requires { ⌜ at + 5 ≤ length (now out) ⌝ }
     ensures { λ r. ⌜ Put 5 (now (out .entry)) at (word (now (names .entry)) k) r (now (out .exit)) ⌝ }
 {
     let from = put_byte(&mut *out, at, 32);
@@ -39,7 +23,7 @@ fn put_word(out: &mut [u8], at: usize, names: &[u8], k: usize) -> usize
 
 // `a=0` behind a space.
 fn put_bit(out: &mut [u8], at: usize, names: &[u8], x: usize, b: u8) -> usize
-    requires { ⌜ (at + 26 ≤ length (now out)) × (x < 256) ⌝ }
+    requires { ⌜ at + 26 ≤ length (now out) ⌝ }
     ensures { λ r. ⌜ Put 26 (now (out .entry)) at (bitText (now (names .entry)) x b) r (now (out .exit)) ⌝ }
 {
     let c = put_word(&mut *out, at, names, x);
@@ -70,7 +54,7 @@ fn group_byte(run: &[u8], n: usize, t: usize, i: usize) -> u8
 
 // The place of the name of a step with this number.
 fn place(b: u8) -> usize
-    ensures { λ r. ⌜ (r ≡ b - 1) × (r < 256) ⌝ }
+    ensures { λ r. ⌜ r ≡ b - 1 ⌝ }
 {
     if b == 0 { 0 } else { b as usize - 1 }
 }

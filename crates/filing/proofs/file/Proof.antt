@@ -2,8 +2,7 @@
 use mathlib.Core.Path.{ap, _∙_}
 use native.Mathlib.Omega.{arith}
 use Rattle.filing.specs.declared.Filed.the-variants.{Length}
-use Rattle.filing.specs.Form.{form}
-use Rattle.filing.proofs.FilingLaws.{few-lemmas, sized-lemmas, never-grows, too-short, filed-whole, turned-away}
+use Rattle.filing.proofs.FilingLaws.{job-fits, job-whole, never-grows, too-short, filed-whole, turned-away}
 use borrow.Author.Needs.{needs}
 use Rattle.filing.proofs.file.Statement.{statement}
 use Rattle.filing.proofs.file.Tie as tie
@@ -33,8 +32,8 @@ put-form-requires c κs =
     let a = start .args in
     let r = at-read .read in
     let accepted = at-enum-told .enum-told .given .1 in (
-      few-lemmas (a .text .now) (a .out .now) (r .result) (r .ensures) accepted,
-      sized-lemmas (a .text .now) (a .out .now) (r .result) (r .ensures) accepted,
+      job-fits (a .text .now) (a .out .now) (r .result) (r .ensures) accepted,
+      job-whole (a .text .now) (a .out .now) (r .result) (r .ensures) accepted,
       omega (arith, never-grows (a .text .now) (a .out .now) (r .result) (r .ensures) accepted),
     )
 

@@ -1,6 +1,7 @@
 -- A text that is longer than the buffer is left; another is put at its front.
 use mathlib.Core.Path.{refl}
 use native.Mathlib.Omega.{arith}
+use Rattle.put.proofs.PutLaws.{put-fits}
 use Rattle.text.proofs.WholeLaws.{too-long, given-whole}
 use borrow.Author.Needs.{needs}
 use Rattle.text.proofs.give.Statement.{statement}
@@ -19,7 +20,7 @@ returns-2 : tie.Need-returns-2
 returns-2 c =
     let at-put-part = c .before .before in
     let start = at-put-part .before .before .before .before .before in
-    given-whole (start .args .text .now) (start .args .out .now) _ _ refl (omega arith) (at-put-part .put-part .ensures .holds)
+    given-whole (start .args .text .now) (start .args .out .now) _ _ refl (omega arith) (put-fits (at-put-part .put-part .ensures) (omega arith) .holds)
 
 pub give-spec : {M : Type 1} → statement M
 give-spec = tie.close (tie.spec returns put-part-requires same-length returns-2)

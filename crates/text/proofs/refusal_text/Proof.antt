@@ -1,5 +1,5 @@
 -- The line's bytes are the front of the array that it was made in.
-use Rattle.text.proofs.PutLaws.{put-front, front-length}
+use Rattle.put.proofs.PutLaws.{put-front, front-length}
 use borrow.Author.Needs.{needs}
 use Rattle.text.proofs.refusal_text.Statement.{statement}
 use Rattle.text.proofs.refusal_text.Tie as tie

@@ -3,7 +3,7 @@ use Prim.Native.Nat.{_+_, _-_}
 use mathlib.Core.Path.{sym, _∙_}
 use native.Mathlib.Omega.{arith}
 use lib.ListN.{length, take, drop}
-use Rattle.filing.specs.Keys.{keptText}
+use Rattle.filing.specs.KeptText.{keptText}
 use Rattle.filing.proofs.KeptLineLaws.{left as rest, left-none, left-lemmas, left-next, line-ends}
 use Rattle.filing.proofs.PartLaws.{Going, going-begins, going-room, going-next, going-ends}
 use borrow.Author.Needs.{needs}

@@ -1,7 +1,7 @@
 -- The line and its LF, one behind the other, or nothing.
 use mathlib.Core.Path.{_∙_, sym}
 use native.Mathlib.Omega.{arith}
-use Rattle.text.proofs.PutLaws.{put-none, put-then, put-most}
+use Rattle.put.proofs.PutLaws.{put-fits, put-none, put-then, put-own}
 use Rattle.filing.proofs.KeptLineLaws.{kept-comment, kept-line, kept-long}
 use borrow.Author.Needs.{needs}
 use Rattle.filing.proofs.kept_lines.put_line.Statement.{statement}
@@ -20,19 +20,10 @@ returns c =
     rw (kept-comment (a .line .now) (sym (c .before .follows .ensures) ∙ c .if1 .taken)) (put-none (a .out .now) (a .at))
 
 put-part-requires : tie.Need-put-part-requires
-put-part-requires c κs =
-    let at-follows = c .before .before in
-    let start = at-follows .before .before .before .before in
-    let l = start .args .line .now in
-    omega (arith, kept-long l (sym (at-follows .follows .ensures) ∙ c .before .if1 .left), start .pre)
+put-part-requires c κs = search needs
 
 put-byte-requires : tie.Need-put-byte-requires
-put-byte-requires c κs =
-    let at-if1 = c .before .before .before .before .before in
-    let at-follows = at-if1 .before in
-    let start = at-follows .before .before .before .before in
-    let l = start .args .line .now in
-    omega (arith, kept-long l (sym (at-follows .follows .ensures) ∙ at-if1 .if1 .left), start .pre)
+put-byte-requires c κs = search needs
 
 same-length : tie.Need-same-length
 same-length c = search needs
@@ -48,8 +39,9 @@ returns-2 c =
     let t = sym (at-follows .follows .ensures) ∙ at-if1 .if1 .left in
     let n = kept-long l t in
     let room = start .pre in
-    let p = put-then (at-put-part .put-part .ensures) (at-put-byte .put-byte .ensures) (omega (arith, room)) in
-    rw (kept-line l t) (put-most p (omega (arith, p .short)))
+    let a = put-fits (at-put-part .put-part .ensures) (omega (arith, room)) in
+    let p = put-then a (put-fits (at-put-byte .put-byte .ensures) (omega (arith, room))) (omega (arith, room)) in
+    rw (kept-line l t) (put-own p)
 
 pub put-line-spec : {M : Type 1} → statement M
 put-line-spec =

@@ -1,38 +1,34 @@
 -- The lines of the rows past the last one, written behind those before, give them all; each turn takes the next row.
-use Prim.Native.Nat.{ℕ, _+_, _*_, _≤_}
+use Prim.Native.Nat.{_+_, _*_, _≤_}
 use mathlib.Core.Path.{_≡_, refl, ap, _∙_}
-use mathlib.Core.List.{List, [], map}
+use mathlib.Core.List.{[]}
 use native.Mathlib.Omega.{arith}
 use lib.Dec.{ltb}
-use lib.ListN.{length, take}
+use lib.ListN.{length}
 use Rattle.lists.specs.Writing.{write}
+use Rattle.lists.proofs.RowLaws.{length-tab}
 use Rattle.job.specs.Limits.{maxNames}
 use Rattle.order.specs.Sorting.{fromLeft}
-use Rattle.text.proofs.PutLaws.{put-front, front-length, put-length}
+use Rattle.put.proofs.PutLaws.{put-fits, put-front, front-length, put-length}
 use Rattle.filing.specs.Keys.{lineText}
-use Rattle.filing.specs.Row.{keysOf, Fit}
-use Rattle.filing.specs.declared.Row.{Row}
-use Rattle.filing.proofs.SelectionLaws.{after}
-use Rattle.filing.proofs.RowLaws.{no-keys, some-keys, rows-few}
+use Rattle.filing.specs.Row.{keysOf, Fit, rowKeys, allKeys}
+use Rattle.filing.proofs.SelectionLaws.{after, after-few}
+use Rattle.filing.proofs.RowLaws.{no-keys, some-keys}
 use Rattle.filing.proofs.PartLaws.{Going, going-begins, going-room, going-next, going-ends}
 use Rattle.filing.proofs.LineLaws.{linesPast, past-done, past-none, past-next, past-fewer}
 use borrow.Author.Needs.{needs}
 use Rattle.filing.proofs.lemma_lines.put_rows.Statement.{statement}
 use Rattle.filing.proofs.lemma_lines.put_rows.Tie as tie
 
--- the keys of the rows
-abbrev all : List Row → ℕ → List (List ℕ)
-all rows count = map keysOf (take count rows)
-
 abbrev Inv-loop : tie.InvT-loop
-Inv-loop out₀ at labels names m rows count line₀ last₀ end₀ left₀ out line last end left =
+Inv-loop out₀ at labels names m items lengths count line₀ last₀ end₀ left₀ out line last end left =
     Fit last
-    × (length (after (fromLeft ltb) (all rows count) (keysOf last)) ≤ left)
-    × Going out₀ at (linesPast labels names m (all rows count) []) out end (linesPast labels names m (all rows count) (keysOf last))
+    × (length (after (fromLeft ltb) (allKeys items lengths count) (keysOf items last)) ≤ left)
+    × Going out₀ at (linesPast labels names m (allKeys items lengths count) []) out end (linesPast labels names m (allKeys items lengths count) (keysOf items last))
     × (length line ≡ 6 * maxNames + 1)
 
 abbrev μ-loop : tie.MeasureT-loop
-μ-loop out₀ at labels names m rows count line₀ last₀ end₀ left₀ out line last end left = left
+μ-loop out₀ at labels names m items lengths count line₀ last₀ end₀ left₀ out line last end left = left
 
 none-requires : tie.Need-none-requires Inv-loop μ-loop
 none-requires c κs = search needs
@@ -41,13 +37,18 @@ loop-holds : tie.Need-loop-holds Inv-loop μ-loop
 loop-holds c =
     let start = c .before .before .before .before in
     let a = start .args in
-    let none = c .none .ensures in
-    (none .0, rows-few (a .rows) (a .count) (keysOf (c .none .result)), rw (none .1) going-begins, refl)
+    let rows = allKeys (a .items .now) (a .lengths .now) (a .count) in
+    let few = after-few (fromLeft ltb) rows (keysOf (a .items .now) (c .none .result)) in (
+      omega arith,
+      omega (arith, length-tab (a .count) (rowKeys (a .items .now) (a .lengths .now))),
+      rw (no-keys (a .items .now) (c .none .result) (c .none .ensures .1)) going-begins,
+      refl,
+    )
 
 next-row-requires : tie.Need-next-row-requires Inv-loop μ-loop
 next-row-requires c κs =
     let start = c .before .before .before .before .before .before in
-    (search needs, start .pre .1, c .before .loop .inv .0)
+    (start .pre .0, start .pre .1, c .before .loop .inv .0)
 
 same-length : tie.Need-same-length Inv-loop μ-loop
 same-length c = search needs
@@ -60,7 +61,7 @@ returns c =
     let a = start .args in
     let o = at-loop .loop in
     let row = at-next-row .next-row in
-    going-ends (o .inv .2) (past-none (a .labels .now) (a .names .now) (a .m) (all (a .rows) (a .count)) (keysOf (o .last)) (keysOf (row .result)) (row .ensures .1) (no-keys (row .result) (c .if1 .taken)))
+    going-ends (o .inv .2) (past-none (a .labels .now) (a .names .now) (a .m) (allKeys (a .items .now) (a .lengths .now) (a .count)) (keysOf (a .items .now) (o .last)) (keysOf (a .items .now) (row .result)) (row .ensures .1) (no-keys (a .items .now) (row .result) (c .if1 .taken)))
 
 slice-aggregate-put-line : tie.Need-slice-aggregate-put-line Inv-loop μ-loop
 slice-aggregate-put-line c = search needs
@@ -81,21 +82,7 @@ slice-aggregate-put-part c =
     front-length (at-put-line .put-line .ensures)
 
 put-part-requires : tie.Need-put-part-requires Inv-loop μ-loop
-put-part-requires c κs =
-    let at-put-line = c .before .before .before in
-    let at-if1 = at-put-line .before .before in
-    let at-next-row = at-if1 .before .before in
-    let at-loop = at-next-row .before .before in
-    let start = at-loop .before .before .before .before .before in
-    let a = start .args in
-    let o = at-loop .loop in
-    let row = at-next-row .next-row in
-    let rows = all (a .rows) (a .count) in
-    let ks = keysOf (row .result) in
-    let next = past-next (a .labels .now) (a .names .now) (a .m) rows (keysOf (o .last)) ks (row .ensures .1) (some-keys (row .result) (row .ensures .0) (at-if1 .if1 .left)) in
-    let line = lineText (a .labels .now) (a .names .now) (a .m) ks in
-    let room = going-room line (linesPast (a .labels .now) (a .names .now) (a .m) rows ks) (o .inv .2) next (start .pre .2) in
-    omega (arith, ap length (put-front (at-put-line .put-line .ensures)))
+put-part-requires c κs = search needs
 
 sub-left : tie.Need-sub-left Inv-loop μ-loop
 sub-left c = search needs
@@ -114,20 +101,22 @@ loop-again c =
     let a = start .args in
     let o = at-loop .loop in
     let row = at-next-row .next-row in
-    let rows = all (a .rows) (a .count) in
-    let ks = keysOf (row .result) in
-    let some = some-keys (row .result) (row .ensures .0) (at-if1 .if1 .left) in
-    let next = past-next (a .labels .now) (a .names .now) (a .m) rows (keysOf (o .last)) ks (row .ensures .1) some in
-    let fewer = past-fewer (a .labels .now) (a .names .now) (a .m) rows (keysOf (o .last)) ks (row .ensures .1) some in
+    let rows = allKeys (a .items .now) (a .lengths .now) (a .count) in
+    let ks = keysOf (a .items .now) (row .result) in
+    let some = some-keys (a .items .now) (row .result) (at-if1 .if1 .left) in
+    let next = past-next (a .labels .now) (a .names .now) (a .m) rows (keysOf (a .items .now) (o .last)) ks (row .ensures .1) some in
+    let fewer = past-fewer (a .labels .now) (a .names .now) (a .m) rows (keysOf (a .items .now) (o .last)) ks (row .ensures .1) some in
     let line = lineText (a .labels .now) (a .names .now) (a .m) ks in
     let p = at-put-line .put-line .ensures in
-    let q = at-put-part .put-part .ensures in
-    let behind : at-put-part .put-part .result ≡ o .end + length line = omega (arith, q .behind, ap length (put-front p)) in
-    let holds = q .holds ∙ ap (write (o .out) (o .end)) (put-front p) in (
+    let front = put-front {part = line} p in
+    let room = going-room line (linesPast (a .labels .now) (a .names .now) (a .m) rows ks) (o .inv .2) next (start .pre .2) in
+    let q = put-fits (at-put-part .put-part .ensures) (omega (arith, ap length {y = line} front)) in
+    let behind : at-put-part .put-part .result ≡ o .end + length line = omega (arith, q .behind, ap length {y = line} front) in
+    let holds = q .holds ∙ ap (write (o .out) (o .end)) {y = line} front in (
       row .ensures .0,
       omega (arith, o .inv .1),
       going-next line (linesPast (a .labels .now) (a .names .now) (a .m) rows ks) (o .inv .2) next (start .pre .2) behind holds,
-      put-length p (omega (arith, o .inv .3, row .ensures .0)) ∙ o .inv .3,
+      put-length {part = line} p (omega (arith, o .inv .3, row .ensures .0)) ∙ o .inv .3,
     )
 
 same-length-2 : tie.Need-same-length-2 Inv-loop μ-loop
@@ -138,7 +127,7 @@ returns-2 c =
     let start = c .before .before .before .before .before .before in
     let a = start .args in
     let o = c .before .loop in
-    going-ends (o .inv .2) (past-done (a .labels .now) (a .names .now) (a .m) (all (a .rows) (a .count)) (keysOf (o .last)) (omega (arith, o .inv .1)))
+    going-ends (o .inv .2) (past-done (a .labels .now) (a .names .now) (a .m) (allKeys (a .items .now) (a .lengths .now) (a .count)) (keysOf (a .items .now) (o .last)) (omega (arith, o .inv .1)))
 
 pub put-rows-spec : {M : Type 1} → statement M
 put-rows-spec =

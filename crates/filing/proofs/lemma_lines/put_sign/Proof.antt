@@ -1,4 +1,6 @@
 -- A negated name's key is odd.
+use native.Mathlib.Omega.{arith}
+use Rattle.put.proofs.PutLaws.{put-fits}
 use Rattle.filing.proofs.LineLaws.{sign-none, sign-tilde}
 use borrow.Author.Needs.{needs}
 use Rattle.filing.proofs.lemma_lines.put_sign.Statement.{statement}
@@ -20,7 +22,7 @@ returns-2 c =
     let at-put-byte = c .before .before in
     let at-if1 = at-put-byte .before .before in
     let start = at-if1 .before .before in
-    sign-tilde (start .args .k) (at-if1 .if1 .left) (at-put-byte .put-byte .ensures)
+    sign-tilde (start .args .k) (at-if1 .if1 .left) (put-fits (at-put-byte .put-byte .ensures) (omega arith))
 
 pub put-sign-spec : {M : Type 1} → statement M
 put-sign-spec = tie.close (tie.spec returns put-byte-requires same-length returns-2)

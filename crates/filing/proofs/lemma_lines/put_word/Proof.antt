@@ -1,6 +1,6 @@
 -- The gap, the sign and the name, one behind the other.
 use native.Mathlib.Omega.{arith}
-use Rattle.text.proofs.PutLaws.{put-then}
+use Rattle.put.proofs.PutLaws.{put-then}
 use borrow.Author.Needs.{needs}
 use Rattle.filing.proofs.lemma_lines.put_word.Statement.{statement}
 use Rattle.filing.proofs.lemma_lines.put_word.Tie as tie
@@ -28,7 +28,7 @@ returns c =
     let at-put-gap = at-put-sign .before .before .before .before in
     let start = at-put-gap .before .before .before .before .before in
     let room = start .pre in
-    let name = rw (at-item .item .ensures .0) at (at-put-item .put-item .ensures) in
+    let name = rw (at-item .item .ensures) at (at-put-item .put-item .ensures) in
     put-then (put-then (at-put-gap .put-gap .ensures) (at-put-sign .put-sign .ensures) (omega (arith, room))) name (omega (arith, room))
 
 pub put-word-spec : {M : Type 1} → statement M

@@ -3,9 +3,9 @@ use Prim.Native.Nat.{_+_, _*_, _-_, _≤_}
 use mathlib.Core.Path.{_≡_}
 use native.Mathlib.Omega.{arith}
 use lib.ListN.{length}
-use Rattle.text.specs.Put.{Put}
+use Rattle.put.specs.Put.{Put}
+use Rattle.put.proofs.PutLaws.{row-none, row-next, put-length}
 use Rattle.text.specs.RunText.{bitText, bitsText, groupOf}
-use Rattle.text.proofs.PutLaws.{row-none, row-next, put-length}
 use borrow.Author.Needs.{needs}
 use Rattle.text.proofs.run.put_bits.Statement.{statement}
 use Rattle.text.proofs.run.put_bits.Tie as tie

@@ -1,7 +1,7 @@
 -- Time and steps, bits, turn and the line feed, one behind the other.
 use native.Mathlib.Omega.{arith}
+use Rattle.put.proofs.PutLaws.{put-fits, put-then}
 use Rattle.text.specs.RunText.{lineText}
-use Rattle.text.proofs.PutLaws.{put-then}
 use borrow.Author.Needs.{needs}
 use Rattle.text.proofs.run.put_line.Statement.{statement}
 use Rattle.text.proofs.run.put_line.Tie as tie
@@ -39,7 +39,8 @@ returns c =
     let room = start .pre .0 in
     let turn = rw (at-group-byte .group-byte .ensures) at (at-put-turn .put-turn .ensures) in
     let a = put-then (at-put-steps .put-steps .ensures) (at-put-bits .put-bits .ensures) (omega (arith, room)) in
-    put-then (put-then a turn (omega (arith, room))) (at-put-byte .put-byte .ensures) (omega (arith, room))
+    let end = put-fits (at-put-byte .put-byte .ensures) (omega arith) in
+    put-then (put-then a turn (omega (arith, room))) end (omega (arith, room))
 
 pub put-line-spec : {M : Type 1} → statement M
 put-line-spec =

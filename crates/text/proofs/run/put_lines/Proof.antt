@@ -6,8 +6,8 @@ use native.Mathlib.Omega.{arith}
 use lib.ListN.{length}
 use Rattle.lists.specs.Writing.{write}
 use Rattle.job.specs.Limits.{maxSteps}
+use Rattle.put.proofs.PutLaws.{put-fits, put-front, front-length, put-length}
 use Rattle.text.specs.RunText.{lineText, groupOf}
-use Rattle.text.proofs.PutLaws.{put-front, front-length, put-length}
 use Rattle.text.proofs.TextsLaws.{Begun, begun-none, begun-length, begun-next, begun-full, begun-all}
 use borrow.Author.Needs.{needs}
 use Rattle.text.proofs.run.put_lines.Statement.{statement}
@@ -59,7 +59,7 @@ slice-aggregate-put-part : tie.Need-slice-aggregate-put-part Inv-loop μ-loop
 slice-aggregate-put-part c = front-length (c .before .before .before .before .put-line .ensures)
 
 put-part-requires : tie.Need-put-part-requires Inv-loop μ-loop
-put-part-requires c κs = let b = c .before .before .before .before .before .before .before .loop .inv .1 in omega (arith, b .room, front-length (c .before .before .before .before .put-line .ensures))
+put-part-requires c κs = search needs
 
 add-bytes : tie.Need-add-bytes Inv-loop μ-loop
 add-bytes c = let b = c .before .before .before .before .before .before .before .before .before .before .loop .inv .1 in omega (arith, b .room)
@@ -82,7 +82,8 @@ loop-again c =
     let p = at-put-line .put-line .ensures in
     let lines = linesOf (a .labels .now) (a .names .now) (a .run .now) (a .n) in
     let n : at-put-line .put-line .result ≡ length (lines (o .count)) = omega (arith, p .behind) in
-    let e = at-put-part .put-part .ensures .holds ∙ ap (write (o .out) (o .bytes)) (put-front p) in
+    let q = put-fits (at-put-part .put-part .ensures) (omega (arith, b .room, front-length p)) in
+    let e = q .holds ∙ ap (write (o .out) (o .bytes)) (put-front p) in
     let next = begun-next lines (a .out .now) (o .count) (o .bytes) (o .out) _ b (omega (arith, b .room)) e in
     (omega arith, rw n next, begun-length lines (a .out .now) next, put-length p (omega (arith, o .inv .3, start .pre)) ∙ o .inv .3)
 

@@ -18,7 +18,7 @@ same-length : tie.Need-same-length
 same-length c = search needs
 
 returns : tie.Need-returns
-returns c = let e = c .before .before .before .before .place .ensures .0 ∙ ap (λ (b : ℕ). b - 1) (c .before .before .before .before .before .group-byte .ensures) in
+returns c = let e = c .before .before .before .before .place .ensures ∙ ap (λ (b : ℕ). b - 1) (c .before .before .before .before .before .group-byte .ensures) in
     rw e at (c .before .before .put-word .ensures)
 
 pub put-step-spec : {M : Type 1} → statement M

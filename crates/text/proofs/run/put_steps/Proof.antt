@@ -1,7 +1,7 @@
 -- The time and the two steps, one behind the other.
 use native.Mathlib.Omega.{arith}
 use Rattle.text.specs.RunText.{stepsText}
-use Rattle.text.proofs.PutLaws.{put-then}
+use Rattle.put.proofs.PutLaws.{put-then}
 use borrow.Author.Needs.{needs}
 use Rattle.text.proofs.run.put_steps.Statement.{statement}
 use Rattle.text.proofs.run.put_steps.Tie as tie

@@ -1,8 +1,8 @@
 -- One word or none, by the byte.
 use native.Mathlib.Omega.{arith}
 use borrow.Author.Tests.{eq-eqb, ne-eqb}
+use Rattle.put.proofs.PutLaws.{put-fits, put-none, put-most}
 use Rattle.text.specs.RunText.{turnText}
-use Rattle.text.proofs.PutLaws.{put-none, put-most}
 use borrow.Author.Needs.{needs}
 use Rattle.text.proofs.run.put_turn.Statement.{statement}
 use Rattle.text.proofs.run.put_turn.Tie as tie
@@ -18,7 +18,7 @@ same-length c = search needs
 
 returns : tie.Need-returns
 unfolding turnText
-returns c = rw (eq-eqb (c .before .before .before .before .before .before .before .args .b) 1 (c .before .before .before .before .before .if1 .taken)) (c .before .before .put-part .ensures)
+returns c = rw (eq-eqb (c .before .before .before .before .before .before .before .args .b) 1 (c .before .before .before .before .before .if1 .taken)) (put-fits (c .before .before .put-part .ensures) (omega arith))
 
 slice-aggregate-put-part-2 : tie.Need-slice-aggregate-put-part-2
 slice-aggregate-put-part-2 c = search needs
@@ -36,7 +36,7 @@ returns-2 c =
     let at-if2 = at-put-part2 .before .before .before in
     let at-if1 = at-if2 .before in
     let start = at-if1 .before .before in
-    rw (ne-eqb (start .args .b) 1 (at-if1 .if1 .left), eq-eqb (start .args .b) 2 (at-if2 .if2 .taken)) (at-put-part2 .put-part2 .ensures)
+    rw (ne-eqb (start .args .b) 1 (at-if1 .if1 .left), eq-eqb (start .args .b) 2 (at-if2 .if2 .taken)) (put-fits (at-put-part2 .put-part2 .ensures) (omega arith))
 
 returns-3 : tie.Need-returns-3
 unfolding turnText

@@ -1,0 +1,2 @@
+-- The answer of filing as C lays it out.
+pub mod Foreign

@@ -1,0 +1,3 @@
+-- The laws of parts and names.
+pub mod PutLaws
+pub mod NameLaws
