@@ -2,6 +2,7 @@
 use mathlib.Core.Path.{_≡_, refl, ap, _∙_}
 use mathlib.Core.Bool.{true, false, true≢false}
 use Prim.Native.Nat.{ℕ, zero, suc}
+use native.Mathlib.Omega.{arith}
 use native.Mathlib.Nat.{not-suc-le-zero}
 use borrow.Author.Tests.{ltb-true}
 use lib.IntN.{ℤ, pos, negsuc, _-ℤ_, predℤ, predℤ-+ℤ, +ℤ-idl}
@@ -14,3 +15,8 @@ below-zero (negsuc x) h = (x, refl, predℤ-+ℤ (pos zero) (pos (suc x)) ∙ ap
 pub not-below : (z : ℤ) → ltZ z (pos 0) ≡ false → (x : ℕ) × (z ≡ pos x)
 not-below (pos x) h = (x, refl)
 not-below (negsuc x) h = let k : true ≡ false = h in absurd (true≢false k)
+
+-- −1 − x
+pub minus-one : (x : ℕ) → negsuc 0 -ℤ pos x ≡ negsuc x
+minus-one zero = refl
+minus-one (suc x) = ap negsuc (omega arith)
