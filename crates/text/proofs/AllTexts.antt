@@ -13,6 +13,7 @@ use Rattle.lists.specs.Writing.{write}
 use Rattle.lists.proofs.TestLaws.{all-of}
 use Rattle.lists.proofs.PlaceLaws.{row-all}
 use Rattle.lists.proofs.WritingLaws.{parts-room}
+use Rattle.text.specs.declared.Texted.{Texted}
 use Rattle.text.specs.Texts.{fitting, texted, withTexts}
 use Rattle.text.specs.Dimacs.{told, numberText, numbersText}
 
@@ -33,6 +34,14 @@ module _ (n : ℕ) (text : ℕ → List ℕ) (old : List ℕ) (room : length (ea
   pub texts-all : (texted n text old ≡ record { count = n; bytes = length (each n text) }) × (withTexts n text old ≡ write old 0 (each n text))
   unfolding texted withTexts
   texts-all = (rw all-fit, rw all-fit)
+
+-- the same where as many as n were counted
+pub texts-counted : (n : ℕ) (text : ℕ → List ℕ) (old new : List ℕ) (t : Texted) → (t ≡ texted n text old) × (new ≡ withTexts n text old) → t .count ≡ n
+    → (t .bytes ≡ length (each n text)) × (new ≡ write old 0 (each n text))
+unfolding texted withTexts
+texts-counted n text old new t (e, h) k =
+    let all : fitting n text (length old) ≡ n = sym (ap (λ (t : Texted). t .count) e) ∙ k in
+    (ap (λ (t : Texted). t .bytes) e ∙ rw all, h ∙ rw all)
 
 -- ---- numbers
 

@@ -1,0 +1,6 @@
+-- The laws of what is printed.
+pub mod PrintingLaws
+pub mod RunLength
+pub mod ShowLaws
+pub mod ShortClauses
+pub mod PieceLaws
