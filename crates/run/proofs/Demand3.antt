@@ -13,6 +13,7 @@ use Rattle.lists.specs.Writing.{write}
 use Rattle.lists.proofs.TestLaws.{passed}
 use Rattle.job.specs.declared.Job.{Job}
 use Rattle.job.specs.declared.Program.{Program}
+use Rattle.job.specs.Answers.{gives}
 use Rattle.job.specs.Table.{r}
 use Rattle.job.specs.Meaning.{Run, isRun}
 use Rattle.job.specs.Numbering.{total}
@@ -23,12 +24,11 @@ use Rattle.job.specs.RunToValues.{runOf, valuesOf, runFault}
 use Rattle.job.proofs.Accuracy.{accuracy}
 use Rattle.job.proofs.MeaningLaws.{run-is}
 use Rattle.job.proofs.ValueLaws.{length-values}
-use Rattle.readoff.specs.declared.Told.the-variants.{Written}
 use Rattle.readoff.specs.ReadingOff.{Outcome, refusal, written, runLength, readingFit, readingOff}
 use Rattle.readoff.proofs.AnswerLaws.{fit-read}
 use Rattle.values.specs.ToValues.{givingValues}
 use Rattle.run.specs.Demand3.{runIn, valuesIn, Room, ThereAndBack, AccurateCalls}
-use Rattle.values.proofs.GivingLaws.{fault-most, breaks, gives, fit-given}
+use Rattle.values.proofs.GivingLaws.{fault-most, breaks, gives-values, fit-given}
 use Rattle.run.proofs.RunBytes.{length-bytes, run-back, no-fault, fault-free, bytes-back}
 
 -- what is written at 0 is the stated part
@@ -59,7 +59,7 @@ module _ (J : Job) (h : fit J ≡ true) where
   -- bytes without a fault are given values
   gives-as : (bs buffer : List ℕ) → runFault J bs ≡ suc (r P) → runLength P ≤ length bs → total P ≤ length buffer
       → givingValues J bs buffer ≡ written (valuesOf P (runOf P bs)) buffer
-  gives-as bs buffer e room place = sym (gives J bs buffer place room (suc (r P)) (sym e) (omega arith) ∙ fit-given J bs buffer h)
+  gives-as bs buffer e room place = sym (gives-values J bs buffer place room (suc (r P)) (sym e) (omega arith) ∙ fit-given J bs buffer h)
 
   -- ---- there and back
 
@@ -106,7 +106,7 @@ module _ (J : Job) (h : fit J ≡ true) where
       (there-and-back (runBytes P R) forRun forValues room (length-bytes J R q) (no-fault J R q is), run-back J R q)
 
   of-values : (vs : List ℕ) → satisfies J vs ≡ true → (forRun forValues : List ℕ) → Room J forRun forValues
-      → (readingOff J vs forRun .answer ≡ Written) × ThereAndBack J (runIn J (readingOff J vs forRun)) forRun forValues
+      → (readingOff J vs forRun .answer ≡ gives tt) × ThereAndBack J (runIn J (readingOff J vs forRun)) forRun forValues
   of-values vs s forRun forValues room =
       let (R, e, is) = accuracy J h .reads-off vs s in
       let o = reads-as vs R forRun (satisfying-length J vs s) e (room .run) in
@@ -115,10 +115,11 @@ module _ (J : Job) (h : fit J ≡ true) where
       (ap (λ o. o .answer) o, rw part (of-a-run R is forRun forValues room .0))
 
   -- an answer that is no refusal says that no rule is broken
-  unbroken : (bs buffer : List ℕ) → length bs ≡ runLength P → total P ≤ length buffer → givingValues J bs buffer .answer ≡ Written → runFault J bs ≡ suc (r P)
+  unbroken : (bs buffer : List ℕ) → length bs ≡ runLength P → total P ≤ length buffer → givingValues J bs buffer .answer ≡ gives tt
+      → runFault J bs ≡ suc (r P)
   unbroken bs buffer long place w = go (decLt (runFault J bs) (suc (r P)))
     where
-      refused : {x : Outcome} (k : ℕ) → refusal 69 k buffer ≡ x → x .answer ≡ Written → ⊥
+      refused : {x : Outcome} (k : ℕ) → refusal 69 k buffer ≡ x → x .answer ≡ gives tt → ⊥
       refused {x} k e a = let z : _≡_ {A = ℕ} 0 1 = cc (ap (λ o. o .answer) e) in absurd (omega arith)
 
       go : Dec (runFault J bs < suc (r P)) → runFault J bs ≡ suc (r P)
@@ -127,7 +128,7 @@ module _ (J : Job) (h : fit J ≡ true) where
       go (no l) = let k = fault-most J bs in omega arith
 
   of-bytes : (bs : List ℕ) → length bs ≡ runLength P → (forRun forValues : List ℕ) → Room J forRun forValues
-      → givingValues J bs forValues .answer ≡ Written → ThereAndBack J bs forRun forValues
+      → givingValues J bs forValues .answer ≡ gives tt → ThereAndBack J bs forRun forValues
   of-bytes bs long forRun forValues room w = there-and-back bs forRun forValues room long (unbroken bs forValues long (room .values) w)
 
 pub accurate-calls : (J : Job) → fit J ≡ true → AccurateCalls J

@@ -8,6 +8,7 @@ use native.Mathlib.Omega.{arith}
 use lib.ListN.{length, take, drop, length-append}
 use lib.Seq.{take-at}
 use Rattle.job.specs.declared.Job.{Job}
+use Rattle.job.specs.Answers.{gives}
 use Rattle.job.specs.Meaning.{Run, isRun}
 use Rattle.job.specs.Numbering.{total}
 use Rattle.job.specs.Fitness.{fit}
@@ -17,7 +18,6 @@ use Rattle.reply.specs.Check.{accepted, maxReply, holding, checked}
 use Rattle.reply.specs.Acceptance.{Acceptable}
 use Rattle.reply.proofs.ReplyLaws.{read-values}
 use Rattle.reply.proofs.Accepted.{acceptable, accepts, accepted-satisfies}
-use Rattle.readoff.specs.declared.Told.the-variants.{Written}
 use Rattle.readoff.specs.ReadingOff.{readingOff}
 use Rattle.readoff.proofs.FrontLaws.{reads-front}
 use Rattle.values.specs.ToValues.{givingValues}
@@ -39,7 +39,7 @@ module _ (J : Job) (h : fit J ≡ true) where
 
   accepted-read : (reply work buffer : List ℕ) → checked J reply work ≡ accepted buffer
       → (forRun forValues : List ℕ) → Room J forRun forValues
-      → (readingOff J buffer forRun .answer ≡ Written) × ThereAndBack J (runIn J (readingOff J buffer forRun)) forRun forValues
+      → (readingOff J buffer forRun .answer ≡ gives tt) × ThereAndBack J (runIn J (readingOff J buffer forRun)) forRun forValues
   accepted-read reply work buffer is forRun forValues space =
       let a = acceptable J reply work buffer is in
       let long = read-values N reply (a .said) (a .reads) .long in

@@ -6,12 +6,12 @@ use mathlib.Core.List.{List}
 use Prim.Native.Nat.{ℕ, _≤_}
 use lib.ListN.{length}
 use Rattle.job.specs.declared.Job.{Job}
+use Rattle.job.specs.Answers.{gives}
 use Rattle.job.specs.Meaning.{Run, isRun}
 use Rattle.job.specs.Numbering.{total}
 use Rattle.job.specs.ReadOff.{runBytes}
 use Rattle.reply.specs.Reply.{values, valuesRead}
 use Rattle.reply.specs.Check.{accepted, maxReply, holding, checked}
-use Rattle.readoff.specs.declared.Told.the-variants.{Written}
 use Rattle.readoff.specs.ReadingOff.{readingOff}
 use Rattle.values.specs.ToValues.{givingValues}
 use Rattle.run.specs.Demand3.{runIn, valuesIn, Room, ThereAndBack}
@@ -20,7 +20,7 @@ pub record AccurateReplies (J : Job) : Type 0 where
   -- an accepted reply leaves a buffer that reads off, and as bytes that go there and back
   pub accepted-read : (reply work buffer : List ℕ) → checked J reply work ≡ accepted buffer
       → (forRun forValues : List ℕ) → Room J forRun forValues
-      → (readingOff J buffer forRun .answer ≡ Written) × ThereAndBack J (runIn J (readingOff J buffer forRun)) forRun forValues
+      → (readingOff J buffer forRun .answer ≡ gives tt) × ThereAndBack J (runIn J (readingOff J buffer forRun)) forRun forValues
   -- a reply that says the values which a run is given is accepted, and what it leaves reads off as that run's bytes
   pub run-accepted : (R : Run) → isRun J R ≡ true → (forRun forValues : List ℕ) → Room J forRun forValues
       → (reply work : List ℕ) → total (J .program) ≤ length work → length reply ≤ maxReply
