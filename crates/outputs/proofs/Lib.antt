@@ -1,5 +1,6 @@
 -- The laws of what is printed.
 pub mod PrintingLaws
+pub mod ReadLaws
 pub mod RunLength
 pub mod ShowLaws
 pub mod ShortClauses

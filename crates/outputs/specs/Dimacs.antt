@@ -7,10 +7,12 @@ use lib.Dec.{eqb}
 use lib.ListN.{length}
 use Rattle.lists.specs.Writing.{write}
 use Rattle.job.specs.declared.Job.{Job}
+use Rattle.job.specs.Answers.{Answer, gives, refuses}
 use Rattle.job.specs.Limits.{maxText}
 use Rattle.job.specs.Literals.{Clause}
 use Rattle.job.specs.Numbering.{total}
 use Rattle.job.specs.Clauses.{clauses}
+use Rattle.parse.specs.Reading.{readJob}
 use Rattle.cnf.specs.Piece.{flat, piece, refusal}
 use Rattle.text.specs.Comments.{comments}
 use Rattle.text.specs.Dimacs.{numbersText}
@@ -26,7 +28,28 @@ clauseText cs = numbersText (flat cs)
 abbrev pub before : List ℕ → Job → List ℕ
 before text J = comments text ++ header (total (J .program)) (length (clauses J))
 
--- ---- the clauses piece by piece
+unfoldable pub dimacs : List ℕ → List ℕ
+dimacs text =
+    let J = readJob text .table in
+    orRefusal (readJob text .answer) λ _. before text J ++ clauseText (clauses J)
+
+-- ---- the same in parts, since the whole may have fifty million bytes
+
+-- what is printed first: comments and header, or a refusal
+unfoldable pub opened : List ℕ → List ℕ
+opened text = orRefusal (readJob text .answer) λ _. before text (readJob text .table)
+
+-- its room: comments are at most twice as long as the text
+abbrev pub openingRoom : ℕ
+openingRoom = 2 * maxText + lineRoom
+
+-- the clauses that follow; none behind a refusal
+abbrev pub behind : Answer (Unit {0}) → List Clause → List Clause
+behind (gives _) cs = cs
+behind (refuses number place) cs = []
+
+unfoldable pub following : List ℕ → List Clause
+following text = behind (readJob text .answer) (clauses (readJob text .table))
 
 -- the most numbers of a piece
 abbrev pub pieceNumbers : ℕ

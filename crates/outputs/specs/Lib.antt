@@ -2,3 +2,4 @@
 pub mod Printing
 pub mod Show
 pub mod Dimacs
+pub mod File

@@ -10,6 +10,7 @@ use Rattle.job.specs.declared.Job.{Job}
 use Rattle.job.specs.Limits.{maxBound, maxSteps}
 use Rattle.job.specs.Table.{r}
 use Rattle.job.specs.Numbering.{total}
+use Rattle.parse.specs.Reading.{readJob}
 use Rattle.reply.specs.Check.{Outcome, accepted, refused, checked}
 use Rattle.readoff.specs.ReadingOff.{readingOff}
 use Rattle.text.specs.RunText.{runLine}
@@ -37,6 +38,9 @@ unfoldable pub replyText : Job → List ℕ → List ℕ
 replyText J reply =
     cond (ltb maxShown (total (J .program)) || ltb maxShown (length reply)) (refusalText 52 0)
     (checkedText J (checked J reply (zeros maxShown)))
+
+unfoldable pub shown : List ℕ → List ℕ → List ℕ
+shown job reply = orRefusal (readJob job .answer) λ _. replyText (readJob job .table) reply
 
 -- the longest text of a run: in a line a time of two digits, two steps, a bit for each variable, the turn and LF, with names of four bytes
 abbrev pub shownRoom : ℕ

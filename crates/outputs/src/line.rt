@@ -8,6 +8,9 @@ ghost use Rattle.outputs.specs.Printing.{lineRoom};
 use job::Refusal;
 use text::Printed;
 
+// A line of two numbers: words of eight bytes, twenty digits each, LF.
+pub(crate) const LINE: usize = 57;
+
 pub(crate) fn put_refusal(out: &mut [u8], refusal: Refusal) -> usize
     requires { ⌜ lineRoom ≤ length (now out) ⌝ }
     ensures { λ r. ⌜ (r ≡ length (refused refusal)) × (now (out .exit) ≡ write (now (out .entry)) 0 (refused refusal)) ⌝ }

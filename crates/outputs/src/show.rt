@@ -4,15 +4,16 @@ ghost use mathlib.Core.Bool.{true};
 ghost use Prim.Native.Nat.{_≤_};
 ghost use lib.ListN.{length};
 ghost use Rattle.lists.specs.Writing.{write};
-ghost use Rattle.job.specs.Numbering.{total};
 ghost use Rattle.job.specs.Fitness.{fit};
-ghost use Rattle.outputs.specs.Show.{shownRoom, runText, replyText};
+ghost use Rattle.outputs.specs.Printing.{Holds};
+ghost use Rattle.outputs.specs.Show.{shownRoom, runText, replyText, shown};
+use super::header::header_of;
 use super::line::put_refusal;
 use job::Job;
 use job::Refusal;
+use parse::Verdict;
 use readoff::Told;
 use reply::Checked;
-use totals::Count;
 
 // A text and its length, with zeros behind it.
 pub struct Shown {
@@ -36,7 +37,10 @@ impl Shown {
 // The lines of the run that values name.
 fn put_run(out: &mut [u8], j: Job, values: &[u8]) -> usize
     requires { ⌜ (fit j ≡ true) × (shownRoom ≤ length (now out)) ⌝ }
-    ensures { λ r. ⌜ (r ≡ length (runText j (now (values .entry)))) × (now (out .exit) ≡ write (now (out .entry)) 0 (runText j (now (values .entry)))) ⌝ }
+    ensures { λ r. ⌜
+        (r ≡ length (runText j (now (values .entry))))
+        × (now (out .exit) ≡ write (now (out .entry)) 0 (runText j (now (values .entry))))
+        ⌝ }
 {
     let mut run = [0u8; Shown::RUN];
     match readoff::read_off(j, values, &mut run) {
@@ -48,27 +52,19 @@ fn put_run(out: &mut [u8], j: Job, values: &[u8]) -> usize
     }
 }
 
-// How many variables a fit table has.
-fn variables(j: Job) -> usize
-    requires { ⌜ fit j ≡ true ⌝ }
-    ensures { λ r. ⌜ r ≡ total (j .program) ⌝ }
-{
-    match totals::totals(j) {
-        Count::Totals(variables, _) => variables,
-        Count::Refused(_) => 0,
-    }
-}
-
 // 52 comes before the checker, whose 51 would hide it.
 fn put_reply(out: &mut [u8], j: Job, reply: &[u8]) -> usize
     requires { ⌜ (fit j ≡ true) × (shownRoom ≤ length (now out)) ⌝ }
-    ensures { λ r. ⌜ (r ≡ length (replyText j (now (reply .entry)))) × (now (out .exit) ≡ write (now (out .entry)) 0 (replyText j (now (reply .entry)))) ⌝ }
+    ensures { λ r. ⌜
+        (r ≡ length (replyText j (now (reply .entry))))
+        × (now (out .exit) ≡ write (now (out .entry)) 0 (replyText j (now (reply .entry))))
+        ⌝ }
 {
     let too_many = Refusal {
         number: Shown::REFUSED,
         place: 0,
     };
-    if Shown::MOST < variables(j) {
+    if Shown::MOST < header_of(j).variables {
         return put_refusal(out, too_many);
     }
     if Shown::MOST < reply.len() {
@@ -79,4 +75,28 @@ fn put_reply(out: &mut [u8], j: Job, reply: &[u8]) -> usize
         Checked::Accepted => put_run(out, j, &values),
         Checked::Refused(refusal) => put_refusal(out, refusal),
     }
+}
+
+fn put_shown(out: &mut [u8], job: &[u8], reply: &[u8]) -> usize
+    requires { ⌜ shownRoom ≤ length (now out) ⌝ }
+    ensures { λ r. ⌜
+        (r ≡ length (shown (now (job .entry)) (now (reply .entry))))
+        × (now (out .exit) ≡ write (now (out .entry)) 0 (shown (now (job .entry)) (now (reply .entry))))
+        ⌝ }
+{
+    let read = parse::read(job);
+    let verdict = read.verdict;
+    match verdict {
+        Verdict::Accepted => put_reply(out, read.job, reply),
+        Verdict::Refused(refusal) => put_refusal(out, refusal),
+    }
+}
+
+// What is printed of a job text and a reply.
+pub fn show(job: &[u8], reply: &[u8]) -> Shown
+    ensures { λ r. ⌜ Holds shownRoom (shown (now (job .entry)) (now (reply .entry))) (r .text) (r .length) ⌝ }
+{
+    let mut text = [0u8; Shown::TEXT];
+    let length = put_shown(&mut text, job, reply);
+    Shown { text, length }
 }

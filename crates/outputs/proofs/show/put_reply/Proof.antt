@@ -12,12 +12,12 @@ use Rattle.outputs.proofs.show.put_reply.Reads as reads
 use Rattle.outputs.proofs.show.put_reply.Lts as lts
 use Rattle.outputs.proofs.line.put_refusal.Reads as put-refusal-reads
 use Rattle.outputs.proofs.show.put_run.Reads as put-run-reads
-use Rattle.outputs.proofs.show.variables.Reads as variables-reads
+use Rattle.outputs.proofs.header.header_of.Reads as header-of-reads
 use Rattle.reply.proofs.check.Reads as check-reads
 
 -- src/show.rt:71:22
-variables-requires : tie.Need-variables-requires
-variables-requires c κs = search needs
+header-of-requires : tie.Need-header-of-requires
+header-of-requires c κs = search needs
 
 -- src/show.rt:72:9
 put-refusal-requires : tie.Need-put-refusal-requires
@@ -30,9 +30,9 @@ same-length c = search needs
 -- src/show.rt:72:9
 returns : tie.Need-returns
 returns c =
-    let a = c .before .before .before .before .before .before .before .before .args in
+    let a = c .before .before .before .before .before .before .before .before .before .args in
     let put = c .before .before .put-refusal in
-    let e = many-variables (a .j) (a .reply .now) (omega (arith, c .before .before .before .before .before .variables .ensures)) in
+    let e = many-variables (a .j) (a .reply .now) (omega (arith, c .before .before .before .before .before .before .header-of .ensures .0)) in
     (put .ensures .0 ∙ ap length e, put .ensures .1 ∙ ap (write (a .out .now) 0) e)
 
 -- src/show.rt:75:9
@@ -46,7 +46,7 @@ same-length-2 c = search needs
 -- src/show.rt:75:9
 returns-2 : tie.Need-returns-2
 returns-2 c =
-    let a = c .before .before .before .before .before .before .before .before .before .args in
+    let a = c .before .before .before .before .before .before .before .before .before .before .args in
     let put = c .before .before .put-refusal2 in
     let e = long-reply (a .j) (a .reply .now) (omega arith) in
     (put .ensures .0 ∙ ap length e, put .ensures .1 ∙ ap (write (a .out .now) 0) e)
@@ -86,10 +86,10 @@ same-length-3 c = search needs
 -- src/show.rt:63:1
 returns-3 : tie.Need-returns-3
 unfolding zeros
-returns-3 c = let a = c .before .before .before .before .before .before .before .before .before .before .before .before .before .before .before .args in
+returns-3 c = let a = c .before .before .before .before .before .before .before .before .before .before .before .before .before .before .before .before .args in
     let check = c .before .before .before .before .before .before .before .before .check in
     let put = c .before .before .put-run in
-    let e = reply-accepted (a .j) (a .reply .now) (omega (arith, c .before .before .before .before .before .before .before .before .before .before .before .before .variables .ensures)) (omega arith) (check .result) _ (check .ensures) (c .before .before .before .before .before .enum-told .given .1) in
+    let e = reply-accepted (a .j) (a .reply .now) (omega (arith, c .before .before .before .before .before .before .before .before .before .before .before .before .before .header-of .ensures .0)) (omega arith) (check .result) _ (check .ensures) (c .before .before .before .before .before .enum-told .given .1) in
     (put .ensures .0 ∙ ap length e, put .ensures .1 ∙ ap (write (a .out .now) 0) e)
 
 -- src/show.rt:63:1
@@ -99,17 +99,17 @@ same-length-4 c = search needs
 -- src/show.rt:63:1
 returns-4 : tie.Need-returns-4
 unfolding zeros
-returns-4 c = let a = c .before .before .before .before .before .before .before .before .before .before .before .before .before .before .before .args in
+returns-4 c = let a = c .before .before .before .before .before .before .before .before .before .before .before .before .before .before .before .before .args in
     let check = c .before .before .before .before .before .before .before .before .check in
     let put = c .before .before .put-refusal3 in
-    let e = reply-refused (a .j) (a .reply .now) (omega (arith, c .before .before .before .before .before .before .before .before .before .before .before .before .variables .ensures)) (omega arith) (check .result) _ (check .ensures) _ (c .before .before .before .before .before .refusal .given .1) in
+    let e = reply-refused (a .j) (a .reply .now) (omega (arith, c .before .before .before .before .before .before .before .before .before .before .before .before .before .header-of .ensures .0)) (omega arith) (check .result) _ (check .ensures) _ (c .before .before .before .before .before .refusal .given .1) in
     (put .ensures .0 ∙ ap length e, put .ensures .1 ∙ ap (write (a .out .now) 0) e)
 
 pub put-reply-spec : {M : Type 1} → statement M
 put-reply-spec =
     tie.close
     (tie.spec
-    variables-requires
+    header-of-requires
     put-refusal-requires
     same-length
     returns
