@@ -1,16 +1,17 @@
 -- A piece that begins at a clause of a fit job is never empty; and the text of a piece is that of its clauses.
 use mathlib.Core.Path.{_≡_, refl, sym, ap, _∙_}
-use mathlib.Core.Bool.{true, cond}
+use mathlib.Core.Bool.{Bool, true, false, cond}
 use mathlib.Core.List.{List, [], _∷_, _++_, map, append-assoc}
 use Prim.Native.Nat.{ℕ, zero, suc, _+_, _*_, _-_, _≤_, _<_}
 use native.Mathlib.Omega.{arith}
-use borrow.Author.Tests.{lt-ltb, ne-eqb}
-use lib.Dec.{eqb}
+use borrow.Author.Tests.{lt-ltb, le-ltb, ne-eqb}
+use lib.Dec.{eqb, ltb}
 use lib.IntN.{ℤ, pos}
 use lib.ListN.{length, take, drop, length-append, length-drop}
 use lib.Seq.{take-at}
 use Rattle.lists.specs.Rows.{each}
 use Rattle.lists.specs.Writing.{write}
+use Rattle.lists.proofs.TestLaws.{within-is}
 use Rattle.lists.proofs.WritingLaws.{write-none}
 use Rattle.job.specs.declared.Job.{Job}
 use Rattle.job.specs.declared.Refusal.{Refusal}
@@ -18,14 +19,17 @@ use Rattle.job.specs.Literals.{Clause, signed}
 use Rattle.job.specs.Clauses.{clauses}
 use Rattle.job.specs.Fitness.{fit}
 use Rattle.cnf.specs.declared.Written.{Written}
-use Rattle.cnf.specs.declared.Written.the-variants.{Piece, Refused}
+use Rattle.cnf.specs.declared.Written.the-variants.{Refused}
+use Rattle.cnf.specs.declared.Written.the-variants.{Piece as Given}
 use Rattle.cnf.specs.Answers.{Counts, answerOf}
 use Rattle.cnf.specs.Piece.{leastRoom, fitting, flat, piece, refusal, answer, buffer, written, bufferAfter}
 use Rattle.text.specs.declared.Texted.{Texted}
 use Rattle.text.specs.Texts.{texted, withTexts}
 use Rattle.text.specs.Dimacs.{numberText, numbersText}
 use Rattle.text.proofs.AllTexts.{texts-counted, numbers-are, numbers-append}
+use Rattle.outputs.specs.declared.dimacs.Piece.{Piece}
 use Rattle.outputs.specs.Dimacs.{clauseText, nextPiece, PieceText}
+use Rattle.outputs.proofs.PrintingLaws.{written-within}
 use Rattle.outputs.proofs.ShortClauses.{Short, clauses-short}
 
 drop-short : (i : ℕ) (cs : List Clause) → Short cs → Short (drop i cs)
@@ -73,12 +77,12 @@ module _ (J : Job) (c : ℕ) (old new : List ℤ) (w : Written) (given : (answer
       go zero h = let z : _≡_ {A = ℕ} 0 1 = cc in absurd (omega arith)
       go (suc x) h = rw (ne-eqb (suc x) 0 (λ e. omega arith))
 
-  pub piece-given : (k n : ℕ) → w ≡ Piece k n
+  pub piece-given : (k n : ℕ) → w ≡ Given k n
       → (k ≡ length (nextPiece J c (length old))) × (n ≡ length (flat (nextPiece J c (length old)))) × (new ≡ write old 0 (flat (nextPiece J c (length old))))
   unfolding written bufferAfter nextPiece
   piece-given k n e = go (refusal J c (length old)) (sym (ap answerOf e) ∙ given .0) (given .1)
     where
-      go : (x : ℕ) → answerOf (Piece k n) ≡ answer x (piece J c (length old)) → new ≡ buffer x (piece J c (length old)) old
+      go : (x : ℕ) → answerOf (Given k n) ≡ answer x (piece J c (length old)) → new ≡ buffer x (piece J c (length old)) old
           → let cs = cond (eqb x 0) (piece J c (length old)) [] in (k ≡ length cs) × (n ≡ length (flat cs)) × (new ≡ write old 0 (flat cs))
       go zero h b =
           let cs = piece J c (length old) in
@@ -88,7 +92,7 @@ module _ (J : Job) (c : ℕ) (old new : List ℤ) (w : Written) (given : (answer
       go (suc x) h b = let z : _≡_ {A = ℕ} 0 1 = cc in absurd (omega arith)
 
   -- the numbers written are the front of the buffer, whatever follows
-  module _ (k n : ℕ) (e : w ≡ Piece k n) (same : length new ≡ length old) where
+  module _ (k n : ℕ) (e : w ≡ Given k n) (same : length new ≡ length old) where
     pub piece-within : n ≤ length old
     piece-within =
         let (_, i, h) = piece-given k n e in
@@ -113,3 +117,27 @@ module _ (J : Job) (c : ℕ) (old new : List ℤ) (w : Written) (given : (answer
         let all = texts-counted (length xs) (numberText xs) out out′ t said (counts (omega (arith, ap length front, piece-within))) in
         let same : each (length xs) (numberText xs) ≡ clauseText cs = numbers-are xs ∙ ap numbersText front in
         record { clauses = j; bytes = all .0 ∙ ap length same; holds = all .1 ∙ ap (write out 0) same }
+
+-- the text lies in the buffer
+pub piece-held : {cs : List Clause} {old new : List ℕ} {p : Piece} → PieceText cs old p new → (p .length ≤ length new) × (p .length ≡ length (take (p .length) new))
+piece-held {cs} {old} {new} {p} h = written-within old new (clauseText cs) (p .length) (h .bytes) (h .holds)
+
+-- ---- the loop over the pieces: each has a clause, and no more than are left
+
+fitting-most : (room : ℕ) (cs : List Clause) → length (fitting room cs) ≤ length cs
+unfolding fitting
+fitting-most room [] = omega arith
+fitting-most room (c ∷ cs) = go (ltb (length c) room) (fitting-most (room - (length c + 1)) cs)
+  where
+    go : (b : Bool) → length (fitting (room - (length c + 1)) cs) ≤ length cs → length (cond b (c ∷ fitting (room - (length c + 1)) cs) []) ≤ suc (length cs)
+    go true h = omega arith
+    go false h = omega arith
+
+pub next-some : (J : Job) → fit J ≡ true → (c room : ℕ) → 1 ≤ c → c ≤ length (clauses J) → leastRoom ≤ room
+    → (0 < length (nextPiece J c room)) × (c + length (nextPiece J c room) ≤ length (clauses J) + 1)
+unfolding nextPiece refusal
+next-some J h c room low high wide =
+    let some = piece-some J h c room low high wide in
+    let most = fitting-most room (drop (c - 1) (clauses J)) in
+    let left = length-drop (c - 1) (clauses J) in
+    rw (h, within-is 1 (length (clauses J)) c low high, le-ltb room leastRoom wide) (some, omega arith)
