@@ -1,14 +1,14 @@
--- Demand 3 about what reading off and run to values do: `accurate-calls`, at the end. The statement is specs/Demand3; the run and the
+-- Demand 3 about what reading off and run to values do: `accurate-calls`, at the end. The statement is specs/Calls; the run and the
 -- values are those of `accuracy` (crate job), the bytes those of RunBytes.
 use mathlib.Core.Path.{_≡_, refl, sym, ap, _∙_}
 use mathlib.Core.Bool.{true}
-use mathlib.Core.List.{List}
+use mathlib.Core.List.{List, _++_}
 use Prim.Native.Nat.{ℕ, suc, _+_, _≤_, _<_}
 use native.Mathlib.Omega.{arith}
 use native.Mathlib.Decide.{decLt}
 use borrow.Author.Tests.{le-ltb, eqb-true}
-use lib.ListN.{length, take, drop}
-use lib.Seq.{take-at, take-all}
+use lib.ListN.{length, take, drop, length-append, length-take}
+use lib.Seq.{take-at, length-take-le}
 use Rattle.lists.specs.Writing.{write}
 use Rattle.lists.proofs.TestLaws.{passed}
 use Rattle.job.specs.declared.Job.{Job}
@@ -26,16 +26,17 @@ use Rattle.job.proofs.ValueLaws.{length-values}
 use Rattle.readoff.specs.declared.Told.the-variants.{Written}
 use Rattle.readoff.specs.ReadingOff.{Outcome, refusal, written, runLength, readingFit, readingOff}
 use Rattle.readoff.proofs.AnswerLaws.{fit-read}
+use Rattle.readoff.proofs.FrontLaws.{reads-front}
 use Rattle.values.specs.ToValues.{givingValues}
-use Rattle.run.specs.Demand3.{runIn, valuesIn, Room, ThereAndBack, AccurateCalls}
-use Rattle.values.proofs.GivingLaws.{fault-most, breaks, gives, fit-given}
-use Rattle.run.proofs.RunBytes.{length-bytes, run-back, no-fault, fault-free, bytes-back}
+use Rattle.claims.specs.Calls.{runIn, valuesIn, Room, ThereAndBack, AccurateCalls}
+use Rattle.values.proofs.GivingLaws.{fault-most, short-run, breaks, gives, fit-given}
+use Rattle.claims.proofs.RunBytes.{length-bytes, run-back, no-fault, fault-free, bytes-back}
 
 -- what is written at 0 is the stated part
 written-part : (part buffer : List ℕ) (k : ℕ) → length part ≡ k → take k (write buffer 0 part) ≡ part
 written-part part buffer k e = take-at part (drop (0 + length part) buffer) k e
 
-satisfying-length : (J : Job) (vs : List ℕ) → satisfies J vs ≡ true → length vs ≡ total (J .program)
+pub satisfying-length : (J : Job) (vs : List ℕ) → satisfies J vs ≡ true → length vs ≡ total (J .program)
 unfolding satisfies areValues
 satisfying-length J vs h =
     let (a, _) = passed _ h in
@@ -63,7 +64,8 @@ module _ (J : Job) (h : fit J ≡ true) where
 
   -- ---- there and back
 
-  module _ (bs forRun forValues : List ℕ) (room : Room J forRun forValues) (long : length bs ≡ runLength (J .program)) (whole : runFault J bs ≡ suc (r (J .program))) where
+  module _ (bs forRun forValues : List ℕ) (room : Room J forRun forValues)
+      (long : runLength (J .program) ≤ length bs) (whole : runFault J bs ≡ suc (r (J .program))) where
     R : Run
     R = runOf P bs
 
@@ -73,62 +75,79 @@ module _ (J : Job) (h : fit J ≡ true) where
 
     outcome : givingValues J bs forValues ≡ written (valuesOf P R) forValues
     unfolding R
-    outcome = gives-as bs forValues whole (omega arith) (room .values)
+    outcome = gives-as bs forValues whole long (room .values)
 
     the-values : valuesIn J (givingValues J bs forValues) ≡ valuesOf P R
     the-values = ap (valuesIn J) outcome ∙ written-part (valuesOf P R) forValues (total P) (length-values P R)
 
-    the-reading : readingOff J (valuesIn J (givingValues J bs forValues)) forRun ≡ written (runBytes P R) forRun
+    -- the buffer that holds the values is as long as it was
+    values-room : total P ≤ length (givingValues J bs forValues .buffer)
+    values-room =
+        rw outcome (omega (arith, length-append (valuesOf P R) (drop (0 + length (valuesOf P R)) forValues), length-values P R))
+
+    the-reading : readingOff J (givingValues J bs forValues .buffer) forRun ≡ written (runBytes P R) forRun
     the-reading =
         let (_, e) = accuracy J h .of-a-run R is-run in
-        ap (λ vs. readingOff J vs forRun) the-values ∙ reads-as (valuesOf P R) R forRun (length-values P R) e (room .run)
+        sym (reads-front J (givingValues J bs forValues .buffer) forRun values-room)
+        ∙ ap (λ vs. readingOff J vs forRun) the-values
+        ∙ reads-as (valuesOf P R) R forRun (length-values P R) e (room .run)
 
-    bytes-again : runBytes P R ≡ bs
+    bytes-again : runBytes P R ≡ take (runLength P) bs
     unfolding R
-    bytes-again = bytes-back J bs whole (omega arith) ∙ take-all (runLength P) bs (omega arith)
+    bytes-again = bytes-back J bs whole long
 
     there-and-back : ThereAndBack J bs forRun forValues
     unfolding R
-    there-and-back = record {
-      run = is-run;
-      given = ap (λ o. o .answer) outcome;
-      satisfy = ap (satisfies J) the-values ∙ accuracy J h .of-a-run R is-run .0;
-      read = ap (λ o. o .answer) the-reading;
-      back = ap (runIn J) the-reading ∙ written-part (runBytes P R) forRun (runLength P) (ap length bytes-again ∙ long) ∙ bytes-again;
-    }
+    there-and-back =
+        let size = ap length bytes-again ∙ length-take-le (runLength P) bs long in
+        record {
+          run = is-run;
+          given = ap (λ o. o .answer) outcome;
+          satisfy = ap (satisfies J) the-values ∙ accuracy J h .of-a-run R is-run .0;
+          read = ap (λ o. o .answer) the-reading;
+          back = ap (runIn J) the-reading ∙ written-part (runBytes P R) forRun (runLength P) size ∙ bytes-again;
+        }
 
   -- ---- the three claims
 
-  of-a-run : (R : Run) → isRun J R ≡ true → (forRun forValues : List ℕ) → Room J forRun forValues
-      → ThereAndBack J (runBytes P R) forRun forValues × (runOf P (runBytes P R) ≡ R)
-  of-a-run R is forRun forValues room =
+  of-a-run : (R : Run) → isRun J R ≡ true → (rest forRun forValues : List ℕ) → Room J forRun forValues
+      → ThereAndBack J (runBytes P R ++ rest) forRun forValues × (runOf P (runBytes P R ++ rest) ≡ R)
+  of-a-run R is rest forRun forValues room =
       let q = run-is J R is in
-      (there-and-back (runBytes P R) forRun forValues room (length-bytes J R q) (no-fault J R q is), run-back J R q)
+      let long : runLength P ≤ length (runBytes P R ++ rest) = omega (arith, length-append (runBytes P R) rest, length-bytes J R q) in
+      (there-and-back (runBytes P R ++ rest) forRun forValues room long (no-fault J R q rest is), run-back J R q rest)
 
-  of-values : (vs : List ℕ) → satisfies J vs ≡ true → (forRun forValues : List ℕ) → Room J forRun forValues
-      → (readingOff J vs forRun .answer ≡ Written) × ThereAndBack J (runIn J (readingOff J vs forRun)) forRun forValues
+  of-values : (vs : List ℕ) → satisfies J (take (total P) vs) ≡ true → (forRun forValues : List ℕ) → Room J forRun forValues
+      → (readingOff J vs forRun .answer ≡ Written) × ThereAndBack J (readingOff J vs forRun .buffer) forRun forValues
   of-values vs s forRun forValues room =
-      let (R, e, is) = accuracy J h .reads-off vs s in
-      let o = reads-as vs R forRun (satisfying-length J vs s) e (room .run) in
-      let part : runIn J (readingOff J vs forRun) ≡ runBytes P R =
-      ap (runIn J) o ∙ written-part (runBytes P R) forRun (runLength P) (length-bytes J R (run-is J R is)) in
-      (ap (λ o. o .answer) o, rw part (of-a-run R is forRun forValues room .0))
+      let (R, e, is) = accuracy J h .reads-off (take (total P) vs) s in
+      let size = satisfying-length J (take (total P) vs) s in
+      let long : total P ≤ length vs = omega (arith, length-take (total P) vs) in
+      let o = sym (reads-front J vs forRun long) ∙ reads-as (take (total P) vs) R forRun size e (room .run) in
+      (ap (λ o. o .answer) o, rw o (of-a-run R is (drop (0 + length (runBytes P R)) forRun) forRun forValues room .0))
 
-  -- an answer that is no refusal says that no rule is broken
-  unbroken : (bs buffer : List ℕ) → length bs ≡ runLength P → total P ≤ length buffer → givingValues J bs buffer .answer ≡ Written → runFault J bs ≡ suc (r P)
-  unbroken bs buffer long place w = go (decLt (runFault J bs) (suc (r P)))
+  -- an answer that is no refusal says that the bytes are as many as a run's, and that no rule is broken
+  unbroken : (bs buffer : List ℕ) → total P ≤ length buffer → givingValues J bs buffer .answer ≡ Written
+      → (runLength P ≤ length bs) × (runFault J bs ≡ suc (r P))
+  unbroken bs buffer place w = enough (decLt (length bs) (runLength P))
     where
-      refused : {x : Outcome} (k : ℕ) → refusal 69 k buffer ≡ x → x .answer ≡ Written → ⊥
-      refused {x} k e a = let z : _≡_ {A = ℕ} 0 1 = cc (ap (λ o. o .answer) e) in absurd (omega arith)
+      refused : {x : Outcome} (number k : ℕ) → refusal number k buffer ≡ x → x .answer ≡ Written → ⊥
+      refused {x} number k e a = let z : _≡_ {A = ℕ} 0 1 = cc (ap (λ o. o .answer) e) in absurd (omega arith)
 
-      go : Dec (runFault J bs < suc (r P)) → runFault J bs ≡ suc (r P)
-      go (yes l) =
-          absurd (refused (runFault J bs) (breaks J bs buffer place (omega arith) (runFault J bs) refl l ∙ fit-given J bs buffer h) w)
-      go (no l) = let k = fault-most J bs in omega arith
+      go : runLength P ≤ length bs → Dec (runFault J bs < suc (r P)) → runFault J bs ≡ suc (r P)
+      go long (yes l) =
+          absurd (refused 69 (runFault J bs) (breaks J bs buffer place long (runFault J bs) refl l ∙ fit-given J bs buffer h) w)
+      go long (no l) = let k = fault-most J bs in omega arith
 
-  of-bytes : (bs : List ℕ) → length bs ≡ runLength P → (forRun forValues : List ℕ) → Room J forRun forValues
+      enough : Dec (length bs < runLength P) → (runLength P ≤ length bs) × (runFault J bs ≡ suc (r P))
+      enough (yes l) = absurd (refused 51 0 (short-run J bs buffer l ∙ fit-given J bs buffer h) w)
+      enough (no l) = let long : runLength P ≤ length bs = omega arith in (long, go long (decLt (runFault J bs) (suc (r P))))
+
+  of-bytes : (bs : List ℕ) → (forRun forValues : List ℕ) → Room J forRun forValues
       → givingValues J bs forValues .answer ≡ Written → ThereAndBack J bs forRun forValues
-  of-bytes bs long forRun forValues room w = there-and-back bs forRun forValues room long (unbroken bs forValues long (room .values) w)
+  of-bytes bs forRun forValues room w =
+      let (long, whole) = unbroken bs forValues (room .values) w in
+      there-and-back bs forRun forValues room long whole
 
 pub accurate-calls : (J : Job) → fit J ≡ true → AccurateCalls J
 accurate-calls J h = record { values-read = of-values J h; bytes-given = of-bytes J h; run-bytes = of-a-run J h }

@@ -1,29 +1,31 @@
 -- Demand 3 from a reply to a run and back: `accurate-replies`, at the end. A reply is accepted exactly when its values satisfy the
--- clauses (crate reply), and of such values Demand3 speaks.
+-- clauses (crate reply), and of such values Calls speaks.
 use mathlib.Core.Path.{_≡_, refl, sym, ap, _∙_}
 use mathlib.Core.Bool.{true}
-use mathlib.Core.List.{List}
+use mathlib.Core.List.{List, _++_}
 use Prim.Native.Nat.{ℕ, _≤_}
 use native.Mathlib.Omega.{arith}
-use lib.ListN.{length, take, drop, length-append}
+use lib.ListN.{length, take, drop, length-append, length-take}
 use lib.Seq.{take-at}
 use Rattle.job.specs.declared.Job.{Job}
 use Rattle.job.specs.Meaning.{Run, isRun}
 use Rattle.job.specs.Numbering.{total}
 use Rattle.job.specs.Fitness.{fit}
 use Rattle.job.specs.ReadOff.{runBytes}
+use Rattle.job.proofs.MeaningLaws.{run-is}
 use Rattle.reply.specs.Reply.{values, valuesRead}
 use Rattle.reply.specs.Check.{accepted, maxReply, holding, checked}
 use Rattle.reply.specs.Acceptance.{Acceptable}
 use Rattle.reply.proofs.ReplyLaws.{read-values}
-use Rattle.reply.proofs.Accepted.{acceptable, accepts, accepted-satisfies}
+use Rattle.reply.proofs.Accepted.{accepts, accepted-satisfies}
 use Rattle.readoff.specs.declared.Told.the-variants.{Written}
 use Rattle.readoff.specs.ReadingOff.{readingOff}
 use Rattle.readoff.proofs.FrontLaws.{reads-front}
 use Rattle.values.specs.ToValues.{givingValues}
-use Rattle.run.specs.Demand3.{runIn, valuesIn, Room, ThereAndBack}
-use Rattle.run.specs.Replies.{AccurateReplies}
-use Rattle.run.proofs.Demand3.{accurate-calls}
+use Rattle.claims.specs.Calls.{runIn, valuesIn, Room, ThereAndBack}
+use Rattle.claims.specs.Replies.{AccurateReplies}
+use Rattle.claims.proofs.Calls.{satisfying-length, accurate-calls}
+use Rattle.claims.proofs.RunBytes.{length-bytes}
 
 -- a buffer that holds values has them in front, and is long enough
 module _ (J : Job) (work vs : List ℕ) (long : length vs ≡ total (J .program)) where
@@ -39,19 +41,15 @@ module _ (J : Job) (h : fit J ≡ true) where
 
   accepted-read : (reply work buffer : List ℕ) → checked J reply work ≡ accepted buffer
       → (forRun forValues : List ℕ) → Room J forRun forValues
-      → (readingOff J buffer forRun .answer ≡ Written) × ThereAndBack J (runIn J (readingOff J buffer forRun)) forRun forValues
-  accepted-read reply work buffer is forRun forValues space =
-      let a = acceptable J reply work buffer is in
-      let long = read-values N reply (a .said) (a .reads) .long in
-      let e = reads-front J buffer forRun (rw (a .holds) (room J work (a .said) long)) in
-      rw e at (accurate-calls J h .values-read (take N buffer) (accepted-satisfies J reply work buffer is) forRun forValues space)
+      → (readingOff J buffer forRun .answer ≡ Written) × ThereAndBack J (readingOff J buffer forRun .buffer) forRun forValues
+  accepted-read reply work buffer is = accurate-calls J h .values-read buffer (accepted-satisfies J reply work buffer is)
 
-  run-accepted : (R : Run) → isRun J R ≡ true → (forRun forValues : List ℕ) → Room J forRun forValues
-      → (reply work : List ℕ) → N ≤ length work → length reply ≤ maxReply
-      → (vs : List ℕ) → vs ≡ valuesIn J (givingValues J (runBytes (J .program) R) forValues) → valuesRead N reply ≡ values vs
+  run-accepted : (R : Run) → isRun J R ≡ true → (rest forRun forValues : List ℕ) → Room J forRun forValues
+      → (vs : List ℕ) → vs ≡ valuesIn J (givingValues J (runBytes (J .program) R ++ rest) forValues)
+      → (reply work : List ℕ) → valuesRead N reply ≡ values vs → N ≤ length work → length reply ≤ maxReply
       → (checked J reply work ≡ accepted (holding N work vs)) × (runIn J (readingOff J (holding N work vs) forRun) ≡ runBytes (J .program) R)
-  run-accepted R is forRun forValues space reply work wide short vs e reads =
-      let (back, _) = accurate-calls J h .run-bytes R is forRun forValues space in
+  run-accepted R is rest forRun forValues space vs e reply work reads wide short =
+      let (back, _) = accurate-calls J h .run-bytes R is rest forRun forValues space in
       let long = read-values N reply vs reads .long in
       let acceptance : Acceptable J reply work (holding N work vs) = record {
         fits = h;
@@ -62,9 +60,13 @@ module _ (J : Job) (h : fit J ≡ true) where
         satisfied = rw e (back .satisfy);
         holds = refl;
       } in
+      let given = givingValues J (runBytes (J .program) R ++ rest) forValues .buffer in
       let whole = reads-front J (holding N work vs) forRun (room J work vs long) in
       let part = ap (λ us. readingOff J us forRun) (front J work vs long ∙ e) in
-      (accepts J reply work (holding N work vs) acceptance, ap (runIn J) (sym whole ∙ part) ∙ back .back)
+      let size = length-bytes J R (run-is J R is) in
+      let given-long : N ≤ length given = omega (arith, length-take N given, satisfying-length J (take N given) (back .satisfy)) in
+      let same = ap (runIn J) (sym whole ∙ part ∙ reads-front J given forRun given-long) in
+      (accepts J reply work (holding N work vs) acceptance, same ∙ back .back ∙ take-at (runBytes (J .program) R) rest _ size)
 
 pub accurate-replies : (J : Job) → fit J ≡ true → AccurateReplies J
 accurate-replies J h = record { accepted-read = accepted-read J h; run-accepted = run-accepted J h }

@@ -1,4 +1,5 @@
--- A run and its bytes: the bytes of a run give that run again and break no rule; bytes that break none are those of the run that they give.
+-- A run and its bytes: the bytes of a run, whatever stands behind them, give that run again and break no rule; bytes that break none
+-- begin with those of the run that they give.
 use mathlib.Core.Path.{_≡_, refl, sym, ap, _∙_}
 use mathlib.Core.Bool.{Bool, true, false, cond}
 use mathlib.Core.List.{List, [], _∷_, _++_, map}
@@ -88,12 +89,18 @@ turn-within : (x : Bool) → within 1 2 (cond x 1 2) ≡ true
 turn-within true = within-is 1 2 1 (omega arith) (omega arith)
 turn-within false = within-is 1 2 2 (omega arith) (omega arith)
 
-module _ (J : Job) (R : Run) (run : IsRun J R) where
+pub length-bytes : (J : Job) (R : Run) → IsRun J R → length (runBytes (J .program) R) ≡ runLength (J .program)
+unfolding runBytes
+length-bytes J R run =
+    let P = J .program in
+    length-rows (group P R) (suc (r P)) (groupLength P) (λ i l. length-group P R i (run .states i (omega arith) .width))
+
+module _ (J : Job) (R : Run) (run : IsRun J R) (rest : List ℕ) where
   abbrev P : Program
   P = J .program
 
   abbrev bs : List ℕ
-  bs = runBytes (J .program) R
+  bs = runBytes (J .program) R ++ rest
 
   width-at : (t : ℕ) → t ≤ r P → length (stateAt R t .bits) ≡ n P
   width-at t l = run .states t l .width
@@ -101,16 +108,16 @@ module _ (J : Job) (R : Run) (run : IsRun J R) where
   rows : (k : ℕ) → k ≤ suc (r P) → length (each k (group P R)) ≡ k * groupLength P
   rows k h = length-rows (group P R) k (groupLength P) (λ i l. length-group P R i (width-at i (omega arith)))
 
-  pub length-bytes : length (runBytes (J .program) R) ≡ runLength (J .program)
-  unfolding runBytes
-  length-bytes = rows (suc (r P)) (omega arith)
-
   byte-at : (t i : ℕ) → t ≤ r P → i < groupLength P → groupByte P bs t i ≡ getD (group P R t) i 0
   unfolding runBytes
   byte-at t i l h =
       let e = rows t (omega arith) in
       let k : i < length (group P R t) = rw (length-group P R t (width-at t l)) h in
-      ap (λ k. num bs (k + i)) (sym e) ∙ getD-each (group P R) (suc (r P)) t i 0 (omega arith) k
+      let inside : t * groupLength P + i < length (runBytes P R) =
+      rw (length-bytes J R run) (omega (arith, row-fits t (r P) (groupLength P) l)) in
+      List·getD-append (runBytes P R) rest 0 (t * groupLength P + i) inside
+      ∙ ap (λ k. num (runBytes P R) (k + i)) (sym e)
+      ∙ getD-each (group P R) (suc (r P)) t i 0 (omega arith) k
 
   module _ (t : ℕ) (l : t ≤ r P) where
     byte-a : groupByte P bs t 0 ≡ suc (stateAt R t .a)
@@ -162,7 +169,7 @@ module _ (J : Job) (R : Run) (run : IsRun J R) where
         last (yes h) = rw (byte-turn, lt-ltb t (r P) h) (turn-within (turnAt R t))
         last (no h) = rw (byte-turn, le-ltb t (r P) (omega arith))
 
-  pub run-back : runOf (J .program) (runBytes (J .program) R) ≡ R
+  pub run-back : runOf (J .program) (runBytes (J .program) R ++ rest) ≡ R
   unfolding runOf
   run-back = λ i. record { states = states i; turns = turns i }
     where
@@ -176,7 +183,7 @@ module _ (J : Job) (R : Run) (run : IsRun J R) where
           let l : t < r P = rw (length-tab (r P) (λ t. eqb (groupByte P bs t (2 + n P)) 1)) at h in
           getD-tab (r P) (λ t. eqb (groupByte P bs t (2 + n P)) 1) t false l ∙ turn-read t (omega arith) l
 
-  pub no-fault : isRun J R ≡ true → runFault J (runBytes (J .program) R) ≡ suc (r (J .program))
+  pub no-fault : isRun J R ≡ true → runFault J (runBytes (J .program) R ++ rest) ≡ suc (r (J .program))
   unfolding runFault isRun
   no-fault h =
       let (_, (_, (holds, _))) = passed _ h in

@@ -1,7 +1,7 @@
--- Demand 3 as a statement about the two calls. It is proved of every fit table in proofs/Demand3.
+-- Demand 3 as a statement about reading off and run to values, byte by byte. It is proved of every fit table in proofs/Calls.
 use mathlib.Core.Path.{_≡_}
 use mathlib.Core.Bool.{true}
-use mathlib.Core.List.{List}
+use mathlib.Core.List.{List, _++_}
 use Prim.Native.Nat.{ℕ, _≤_}
 use lib.ListN.{length, take}
 use Rattle.job.specs.declared.Job.{Job}
@@ -26,22 +26,24 @@ pub record Room (J : Job) (forRun forValues : List ℕ) : Type 0 where
   pub run : runLength (J .program) ≤ length forRun
   pub values : total (J .program) ≤ length forValues
 
--- bytes, as long as a run's, that run to values takes: they are those of a run, its values satisfy the clauses, and these read off as
--- the same bytes
+-- bytes that run to values takes, perhaps in a longer buffer: they are those of a run, its values satisfy the clauses, and the buffer
+-- with these values reads off as the same bytes
 pub record ThereAndBack (J : Job) (bs forRun forValues : List ℕ) : Type 0 where
   pub run : isRun J (runOf (J .program) bs) ≡ true
   pub given : givingValues J bs forValues .answer ≡ Written
   pub satisfy : satisfies J (valuesIn J (givingValues J bs forValues)) ≡ true
-  pub read : readingOff J (valuesIn J (givingValues J bs forValues)) forRun .answer ≡ Written
-  pub back : runIn J (readingOff J (valuesIn J (givingValues J bs forValues)) forRun) ≡ bs
+  pub read : readingOff J (givingValues J bs forValues .buffer) forRun .answer ≡ Written
+  pub back : runIn J (readingOff J (givingValues J bs forValues .buffer) forRun) ≡ take (runLength (J .program)) bs
 
 pub record AccurateCalls (J : Job) : Type 0 where
-  -- values that satisfy the clauses read off, and as bytes that go there and back
-  pub values-read : (vs : List ℕ) → satisfies J vs ≡ true → (forRun forValues : List ℕ) → Room J forRun forValues
-      → (readingOff J vs forRun .answer ≡ Written) × ThereAndBack J (runIn J (readingOff J vs forRun)) forRun forValues
-  -- bytes of a run's length that are given values go there and back
-  pub bytes-given : (bs : List ℕ) → length bs ≡ runLength (J .program) → (forRun forValues : List ℕ) → Room J forRun forValues
+  -- 'Any values that satisfy its clauses read off as one such run with its turns': as bytes that go there and back
+  pub values-read : (vs : List ℕ) → satisfies J (take (total (J .program)) vs) ≡ true
+      → (forRun forValues : List ℕ) → Room J forRun forValues
+      → (readingOff J vs forRun .answer ≡ Written) × ThereAndBack J (readingOff J vs forRun .buffer) forRun forValues
+  -- bytes that are given values go there and back
+  pub bytes-given : (bs : List ℕ) → (forRun forValues : List ℕ) → Room J forRun forValues
       → givingValues J bs forValues .answer ≡ Written → ThereAndBack J bs forRun forValues
-  -- the bytes of any run go there and back, and give that run
-  pub run-bytes : (R : Run) → isRun J R ≡ true → (forRun forValues : List ℕ) → Room J forRun forValues
-      → ThereAndBack J (runBytes (J .program) R) forRun forValues × (runOf (J .program) (runBytes (J .program) R) ≡ R)
+  -- 'Of any such run with its turns, 01's rule makes values that .. read off as that same run': its bytes, whatever stands behind them,
+  -- go there and back, and give it
+  pub run-bytes : (R : Run) → isRun J R ≡ true → (rest forRun forValues : List ℕ) → Room J forRun forValues
+      → ThereAndBack J (runBytes (J .program) R ++ rest) forRun forValues × (runOf (J .program) (runBytes (J .program) R ++ rest) ≡ R)

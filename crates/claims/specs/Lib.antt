@@ -1,3 +1,3 @@
 -- Demand 3, said of what the calls do.
-pub mod Demand3
+pub mod Calls
 pub mod Replies

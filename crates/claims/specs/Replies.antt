@@ -2,7 +2,7 @@
 -- proofs/Replies.
 use mathlib.Core.Path.{_≡_}
 use mathlib.Core.Bool.{true}
-use mathlib.Core.List.{List}
+use mathlib.Core.List.{List, _++_}
 use Prim.Native.Nat.{ℕ, _≤_}
 use lib.ListN.{length}
 use Rattle.job.specs.declared.Job.{Job}
@@ -14,16 +14,17 @@ use Rattle.reply.specs.Check.{accepted, maxReply, holding, checked}
 use Rattle.readoff.specs.declared.Told.the-variants.{Written}
 use Rattle.readoff.specs.ReadingOff.{readingOff}
 use Rattle.values.specs.ToValues.{givingValues}
-use Rattle.run.specs.Demand3.{runIn, valuesIn, Room, ThereAndBack}
+use Rattle.claims.specs.Calls.{runIn, valuesIn, Room, ThereAndBack}
 
 pub record AccurateReplies (J : Job) : Type 0 where
   -- an accepted reply leaves a buffer that reads off, and as bytes that go there and back
   pub accepted-read : (reply work buffer : List ℕ) → checked J reply work ≡ accepted buffer
       → (forRun forValues : List ℕ) → Room J forRun forValues
-      → (readingOff J buffer forRun .answer ≡ Written) × ThereAndBack J (runIn J (readingOff J buffer forRun)) forRun forValues
-  -- a reply that says the values which a run is given is accepted, and what it leaves reads off as that run's bytes
-  pub run-accepted : (R : Run) → isRun J R ≡ true → (forRun forValues : List ℕ) → Room J forRun forValues
-      → (reply work : List ℕ) → total (J .program) ≤ length work → length reply ≤ maxReply
-      → (vs : List ℕ) → vs ≡ valuesIn J (givingValues J (runBytes (J .program) R) forValues) → valuesRead (total (J .program)) reply ≡ values vs
+      → (readingOff J buffer forRun .answer ≡ Written) × ThereAndBack J (readingOff J buffer forRun .buffer) forRun forValues
+  -- a reply that says the values which run to values makes of a run is accepted, and what it leaves reads off as that run's bytes
+  pub run-accepted : (R : Run) → isRun J R ≡ true → (rest forRun forValues : List ℕ) → Room J forRun forValues
+      → (vs : List ℕ) → vs ≡ valuesIn J (givingValues J (runBytes (J .program) R ++ rest) forValues)
+      → (reply work : List ℕ) → valuesRead (total (J .program)) reply ≡ values vs
+      → total (J .program) ≤ length work → length reply ≤ maxReply
       → (checked J reply work ≡ accepted (holding (total (J .program)) work vs))
       × (runIn J (readingOff J (holding (total (J .program)) work vs) forRun) ≡ runBytes (J .program) R)

@@ -126,7 +126,7 @@ one-form text h =
     let lemmas = form-lemmas text T in
     let named = form-named text T in
     let twice = form-same text (formOf text) (jobOf text) (jobOf (formOf text)) (form-kept text T) named
-        (ap filed lemmas ∙ filed-twice (lemmasOf (jobOf text))) in
+    (ap filed lemmas ∙ filed-twice (lemmasOf (jobOf text))) in
     record {
       accepted = again;
       agrees = equal-agree (formOf text) text (told (formOf text) again) T twice;
