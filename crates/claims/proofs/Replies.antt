@@ -47,7 +47,8 @@ module _ (J : Job) (h : fit J ≡ true) where
   run-accepted : (R : Run) → isRun J R ≡ true → (rest forRun forValues : List ℕ) → Room J forRun forValues
       → (vs : List ℕ) → vs ≡ valuesIn J (givingValues J (runBytes (J .program) R ++ rest) forValues)
       → (reply work : List ℕ) → valuesRead N reply ≡ values vs → N ≤ length work → length reply ≤ maxReply
-      → (checked J reply work ≡ accepted (holding N work vs)) × (runIn J (readingOff J (holding N work vs) forRun) ≡ runBytes (J .program) R)
+      → (checked J reply work ≡ accepted (holding N work vs))
+      × (runIn J (readingOff J (holding N work vs) forRun) ≡ runBytes (J .program) R)
   run-accepted R is rest forRun forValues space vs e reply work reads wide short =
       let (back, _) = accurate-calls J h .run-bytes R is rest forRun forValues space in
       let long = read-values N reply vs reads .long in

@@ -134,7 +134,9 @@ module _ (J : Job) (R : Run) (run : IsRun J R) (rest : List ℕ) where
 
     state-back : stateOf P bs t ≡ stateAt R t
     unfolding stateOf
-    state-back = state-path (stateOf P bs t) (stateAt R t) pcs (ext-getD false (stateOf P bs t .bits) (stateAt R t .bits) (long ∙ sym (width-at t l)) at)
+    state-back =
+        state-path (stateOf P bs t) (stateAt R t) pcs
+        (ext-getD false (stateOf P bs t .bits) (stateAt R t .bits) (long ∙ sym (width-at t l)) at)
       where
         pcs : (q : Process) → pc (stateOf P bs t) q ≡ pc (stateAt R t) q
         pcs true = omega (arith, byte-a)
@@ -146,7 +148,9 @@ module _ (J : Job) (R : Run) (run : IsRun J R) (rest : List ℕ) where
         at : (x : ℕ) → x < length (stateOf P bs t .bits) → getD (stateOf P bs t .bits) x false ≡ getD (stateAt R t .bits) x false
         at x h =
             let k : x < n P = rw long at h in
-            getD-tab (n P) (λ x. eqb (groupByte P bs t (2 + x)) 1) x false k ∙ ap (λ b. eqb b 1) (byte-bit x k) ∙ bit-back (bit (stateAt R t) x)
+            getD-tab (n P) (λ x. eqb (groupByte P bs t (2 + x)) 1) x false k
+            ∙ ap (λ b. eqb b 1) (byte-bit x k)
+            ∙ bit-back (bit (stateAt R t) x)
 
     turn-read : t < r P → eqb (groupByte P bs t (2 + n P)) 1 ≡ turnAt R t
     unfolding turnByte
@@ -161,7 +165,10 @@ module _ (J : Job) (R : Run) (run : IsRun J R) (rest : List ℕ) where
           rw byte-a (within-is 1 (m P) (suc (stateAt R t .a)) (omega arith) a),
           (
             rw byte-b (within-is 1 (m P) (suc (stateAt R t .b)) (omega arith) b),
-            (all-of _ (n P) (λ x h. rw (byte-bit x h) (le-leb (byte (bit (stateAt R t) x)) 1 (bit-small (bit (stateAt R t) x)))), (last (decLt t (r P)), tt)),
+            (
+              all-of _ (n P) (λ x h. rw (byte-bit x h) (le-leb (byte (bit (stateAt R t) x)) 1 (bit-small (bit (stateAt R t) x)))),
+              (last (decLt t (r P)), tt),
+            ),
           ),
         )
       where

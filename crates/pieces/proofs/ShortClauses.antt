@@ -21,7 +21,8 @@ use Rattle.job.specs.Table.{Process, A, B, m, n, w, r, action, own, lemma}
 use Rattle.job.specs.Numbering.{item}
 use Rattle.job.specs.Exclusion.{excluding, exclusion}
 use Rattle.job.specs.Clauses.{assigns, someStep, excludes, branches, leads, turns, assigning, assignments, keeps, variables}
-use Rattle.job.specs.Clauses.{stepDiffers, bitDiffers, differ, excludesAt, turnsAt, variablesAt, differAt, between, atTime, lemmaClauses, clauses}
+use Rattle.job.specs.Clauses.{stepDiffers, bitDiffers, differ, excludesAt, turnsAt, variablesAt, differAt, between}
+use Rattle.job.specs.Clauses.{atTime, lemmaClauses, clauses}
 use Rattle.job.specs.Fitness.{fit}
 use Rattle.job.proofs.FitnessLaws.{Sizes, fit-sizes, fit-lemmas, lemma-is}
 use Rattle.pieces.specs.AllClauses.{longest, Short}
@@ -80,7 +81,8 @@ module _ (P : Program) (sizes : Sizes P) where
   some-short p here = let steps = row-most (m P) (own P p) (λ c. On (here c)) in omega (arith, sizes .steps)
 
   module _ (U : ℕ) (here next : ℕ → ℕ) where
-    branches-short : (p : Process) (c : ℕ) (atL atM : Bool) (x : ℕ) (b : Bool) (l e : ℕ) → Short (branches P U here next p c atL atM x b l e)
+    branches-short : (p : Process) (c : ℕ) (atL atM : Bool) (x : ℕ) (b : Bool) (l e : ℕ)
+        → Short (branches P U here next p c atL atM x b l e)
     branches-short p c true atM x b l e = (omega arith, (omega arith, tt))
     branches-short p c false true x b l e = (omega arith, (omega arith, tt))
     branches-short p c false false x b l e = (omega arith, (omega arith, tt))
