@@ -12,6 +12,7 @@ ghost use lib.ListN.{length};
 ghost use Rattle.lists.specs.Writing.{write};
 ghost use Rattle.job.specs.Fitness.{fit};
 ghost use Rattle.form.specs.Form.{form};
+ghost use Rattle.filing.specs.Answers.{answerOf};
 ghost use Rattle.filing.specs.Filing.{filing};
 ghost use Rattle.filing.specs.Row.{Whole};
 use job::Job;
@@ -64,7 +65,10 @@ fn put_form(text: &[u8], mut j: Job, out: &mut [u8]) -> usize
 
 // The filing form of a job text goes to the front of a buffer as long as the text.
 pub fn file(text: &[u8], out: &mut [u8]) -> Filed
-    ensures { λ r. ⌜ (r ≡ filing (now (text .entry)) (now (out .entry)) .answer) × (now (out .exit) ≡ filing (now (text .entry)) (now (out .entry)) .buffer) ⌝ }
+    ensures { λ r. ⌜
+        (answerOf r ≡ filing (now (text .entry)) (now (out .entry)) .answer)
+        × (now (out .exit) ≡ filing (now (text .entry)) (now (out .entry)) .buffer)
+        ⌝ }
 {
     let r = parse::read(text);
     let verdict = r.verdict;

@@ -4,6 +4,7 @@ use mathlib.Core.Bool.{Bool, true, false}
 use lib.IntN.{pos}
 use lib.ListN.{replicate}
 use Rattle.job.specs.Limits.{maxLemmas, maxNames}
+use Rattle.job.specs.Answers.{Answer, gives, refuses}
 use Rattle.job.specs.declared.Job.{Job}
 use Rattle.job.specs.declared.Program.{Program}
 use Rattle.program.specs.Draft.{blank}
@@ -11,6 +12,11 @@ use Rattle.program.specs.declared.Draft.{Draft}
 use Rattle.parse.specs.declared.Verdict.{Verdict}
 use Rattle.parse.specs.declared.Verdict.the-variants.{Accepted, Refused}
 use Rattle.parse.specs.declared.Reading.{Reading}
+
+-- acceptance, or number and place of a refusal
+abbrev pub answerOf : Verdict → Answer (Unit {0})
+answerOf Accepted = gives tt
+answerOf (Refused r) = refuses (r .number) (r .place)
 
 -- no lemma yet: the draft's names with a program
 unfoldable pub withoutLemmas : Draft → Program → Job

@@ -11,10 +11,10 @@ ghost use Rattle.lists.specs.Places.{first};
 ghost use Rattle.job.specs.Limits.{maxSteps, maxLemmas, maxNames, maxText};
 ghost use Rattle.scan.specs.Lines.{row, lines};
 ghost use Rattle.scan.specs.Names.{lookup};
-ghost use Rattle.parse.specs.Answers.{refusal as refusalOf, deny, withoutLemmas};
+ghost use Rattle.parse.specs.Answers.{answerOf, refusal as refusalOf, deny, withoutLemmas};
 ghost use Rattle.parse.specs.Labels.{numberOf, targetOf, aim as aimOf, enterTo, enterOther, linkStep, link as linkAll, atLemmas};
 ghost use Rattle.parse.specs.Lemmas.{itemIn, signed as signedItem, words, lemma, lemmaLine, lemmaLines};
-ghost use Rattle.parse.specs.Reading.{stop, reading};
+ghost use Rattle.parse.specs.Reading.{stop, readJob};
 use fields::Field;
 use job::Job;
 use job::Program;
@@ -424,7 +424,10 @@ fn stopped(end: End) -> Reading
 
 // Reading a job: the table of its text, or a refusal.
 pub fn read(text: &[u8]) -> Reading
-    ensures { λ r. ⌜ r ≡ reading (now (text .entry)) ⌝ }
+    ensures { λ r. ⌜
+        (answerOf (r .verdict) ≡ readJob (now (text .entry)) .answer)
+        × (r .job ≡ readJob (now (text .entry)) .table)
+        ⌝ }
 {
     let o = program::program(text);
     let end = o.end;

@@ -6,6 +6,8 @@ mod bytes; // bytes.rt: the run's bytes, group by group
 ghost use mathlib.Core.Path.{_≡_};
 ghost use Rattle.job.specs.Numbering.{total as Total};
 ghost use Rattle.job.proofs.FitnessLaws.{Sizes};
+ghost use Rattle.job.specs.Answers.{refuses};
+ghost use Rattle.readoff.specs.Answers.{answerOf};
 ghost use Rattle.readoff.specs.ReadingOff.{readingFit, readingOff};
 use bytes::write_run;
 use job::Job;
@@ -22,7 +24,7 @@ pub enum Told {
 }
 
 fn refused(number: u8, place: usize) -> Told
-    ensures { λ r. ⌜ r ≡ Told.Refused (record { number = number; place = place }) ⌝ }
+    ensures { λ r. ⌜ answerOf r ≡ refuses number place ⌝ }
 {
     Told::Refused(Refusal { number, place })
 }
@@ -30,7 +32,10 @@ fn refused(number: u8, place: usize) -> Told
 // Of a fit table, with its number of variables.
 fn read_fit(p: Program, total: usize, values: &[u8], run: &mut [u8]) -> Told
     requires { ⌜ Sizes p × (total ≡ Total p) ⌝ }
-    ensures { λ r. ⌜ (r ≡ readingFit p (now (values .entry)) (now (run .entry)) .answer) × (now (run .exit) ≡ readingFit p (now (values .entry)) (now (run .entry)) .buffer) ⌝ }
+    ensures { λ r. ⌜
+        (answerOf r ≡ readingFit p (now (values .entry)) (now (run .entry)) .answer)
+        × (now (run .exit) ≡ readingFit p (now (values .entry)) (now (run .entry)) .buffer)
+        ⌝ }
 {
     if values.len() < total {
         return refused(51, 0);
@@ -47,7 +52,10 @@ fn read_fit(p: Program, total: usize, values: &[u8], run: &mut [u8]) -> Told
 }
 
 pub fn read_off(j: Job, values: &[u8], run: &mut [u8]) -> Told
-    ensures { λ r. ⌜ (r ≡ readingOff j (now (values .entry)) (now (run .entry)) .answer) × (now (run .exit) ≡ readingOff j (now (values .entry)) (now (run .entry)) .buffer) ⌝ }
+    ensures { λ r. ⌜
+        (answerOf r ≡ readingOff j (now (values .entry)) (now (run .entry)) .answer)
+        × (now (run .exit) ≡ readingOff j (now (values .entry)) (now (run .entry)) .buffer)
+        ⌝ }
 {
     match totals::totals(j) {
         Count::Totals(total, _) => read_fit(j.program, total, values, run),

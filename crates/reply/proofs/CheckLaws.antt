@@ -10,12 +10,14 @@ use lib.ListN.{length, take, drop}
 use lib.Seq.{take-at}
 use Rattle.job.specs.declared.Job.{Job}
 use Rattle.job.specs.declared.Refusal.{Refusal}
+use Rattle.job.specs.Answers.{gives}
 use Rattle.job.specs.Numbering.{total}
 use Rattle.job.specs.Clauses.{clauses}
 use Rattle.job.specs.Fitness.{fit}
 use Rattle.job.specs.Satisfaction.{falseClause}
 use Rattle.cnf.specs.declared.Evaluation.{Evaluation}
 use Rattle.cnf.specs.declared.Evaluation.the-variants.{FirstFalse, Unfit}
+use Rattle.cnf.specs.Answers.{answerOfEvaluation}
 use Rattle.cnf.specs.Evaluation.{evaluation}
 use Rattle.reply.specs.declared.Checked.{Checked}
 use Rattle.reply.specs.declared.Checked.the-variants.{Accepted, Refused}
@@ -26,16 +28,16 @@ use Rattle.reply.proofs.ReplyLaws.{read-values}
 
 -- ---- the evaluation of a fit table's clauses
 
-module _ (J : Job) (h : fit J ≡ true) (vs : List ℕ) (e : Evaluation) (is : e ≡ evaluation J vs) where
-  fit-evaluation : FirstFalse (falseClause J vs) ≡ e
+module _ (J : Job) (h : fit J ≡ true) (vs : List ℕ) (e : Evaluation) (is : answerOfEvaluation e ≡ evaluation J vs) where
+  fit-evaluation : gives (falseClause J vs) ≡ answerOfEvaluation e
   unfolding evaluation
   fit-evaluation = sym (is ∙ rw h)
 
   pub first-false : (f : ℕ) → e ≡ FirstFalse f → f ≡ falseClause J vs
-  first-false f k = let q = fit-evaluation ∙ k in cc
+  first-false f k = let q = fit-evaluation ∙ ap answerOfEvaluation k in cc
 
   pub not-unfit : (r : Refusal) → e ≡ Unfit r → (f : ℕ) → f ≡ falseClause J vs
-  not-unfit r k f = let q = fit-evaluation ∙ k in let z : _≡_ {A = ℕ} 0 1 = cc in absurd (omega arith)
+  not-unfit r k f = let q = fit-evaluation ∙ ap answerOfEvaluation k in let z : _≡_ {A = ℕ} 0 1 = cc in absurd (omega arith)
 
 -- ---- the order of the numbers
 

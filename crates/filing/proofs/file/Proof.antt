@@ -1,7 +1,7 @@
 -- The reader's refusal is passed on, then 51; the form of an accepted text is no longer than the text, so it has room.
 use mathlib.Core.Path.{ap, _∙_}
 use native.Mathlib.Omega.{arith}
-use Rattle.filing.specs.declared.Filed.the-variants.{Length}
+use Rattle.job.specs.Answers.{gives}
 use Rattle.filing.proofs.FilingLaws.{job-fits, job-whole, never-grows, too-short, filed-whole, turned-away}
 use borrow.Author.Needs.{needs}
 use Rattle.filing.proofs.file.Statement.{statement}
@@ -57,7 +57,7 @@ returns-3 c =
     let a = start .args in
     let form = at-put-form .put-form .ensures in
     let e = filed-whole (a .text .now) (a .out .now) (at-read .read .result) (at-read .read .ensures) (at-enum-told .enum-told .given .1) (omega arith) in
-    (ap Length (form .0) ∙ ap (λ o. o .answer) e, form .1 ∙ ap (λ o. o .buffer) e)
+    (ap gives (form .0) ∙ ap (λ o. o .answer) e, form .1 ∙ ap (λ o. o .buffer) e)
 
 pub file-spec : {M : Type 1} → statement M
 file-spec =

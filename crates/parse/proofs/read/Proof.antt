@@ -1,5 +1,5 @@
 -- `read` reads the program part, checks it at `lemmas`, and reads the lemma lines.
-use Rattle.parse.proofs.ReadingLaws.{limits, no-program, at-lemmas, counts-kept}
+use Rattle.parse.proofs.ReadingLaws.{limits, no-program, at-lemmas, counts-kept, promised}
 use Rattle.parse.proofs.AnswerLaws.{goes-on, ends-here}
 use mathlib.Core.Path.{_∙_}
 use borrow.Author.Needs.{needs}
@@ -23,8 +23,9 @@ returns c =
     let args′ = c .before .before .before .before .before .args in
     let program′ = c .before .before .before .program in
     let enum-told′ = c .before .enum-told in
-    c .stopped .ensures
-    ∙ no-program (args′ .text .now) (program′ .result) (program′ .ensures) (enum-told′ .given .0 .0) (enum-told′ .given .0 .1 .0) (enum-told′ .given .1)
+    promised (args′ .text .now) _
+    (c .stopped .ensures
+    ∙ no-program (args′ .text .now) (program′ .result) (program′ .ensures) (enum-told′ .given .0 .0) (enum-told′ .given .0 .1 .0) (enum-told′ .given .1))
 
 at-lemmas-requires : tie.Need-at-lemmas-requires
 at-lemmas-requires c κs =
@@ -48,9 +49,10 @@ returns-2 c =
     let end′ = c .before .before .before .before .before .end in
     let at-lemmas′ = c .before .before .before .at-lemmas in
     let enum-told3′ = c .before .enum-told3 in
-    c .denied .ensures
+    promised (args′ .text .now) _
+    (c .denied .ensures
     ∙ ends-here (at-lemmas′ .result) _ _ (at-lemmas′ .ensures) (enum-told3′ .given .0 .0) (enum-told3′ .given .1)
-    ∙ at-lemmas (args′ .text .now) (program′ .result) (program′ .ensures) _ _ (end′ .given .1)
+    ∙ at-lemmas (args′ .text .now) (program′ .result) (program′ .ensures) _ _ (end′ .given .1))
 
 lemma-lines-requires : tie.Need-lemma-lines-requires
 lemma-lines-requires c κs =
@@ -68,9 +70,10 @@ returns-3 c =
     let program′ = c .before .before .before .before .before .before .before .program in
     let end′ = c .before .before .before .before .before .end in
     let at-lemmas′ = c .before .before .before .at-lemmas in
-    c .lemma-lines .ensures
+    promised (args′ .text .now) _
+    (c .lemma-lines .ensures
     ∙ goes-on (at-lemmas′ .result) _ _ (at-lemmas′ .ensures) (c .before .enum-told2 .given .1)
-    ∙ at-lemmas (args′ .text .now) (program′ .result) (program′ .ensures) _ _ (end′ .given .1)
+    ∙ at-lemmas (args′ .text .now) (program′ .result) (program′ .ensures) _ _ (end′ .given .1))
 
 pub read-spec : {M : Type 1} → statement M
 read-spec =

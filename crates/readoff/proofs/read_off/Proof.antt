@@ -2,7 +2,8 @@
 use mathlib.Core.Path.{ap, _∙_}
 use borrow.Author.Needs.{needs}
 use Rattle.job.proofs.FitnessLaws.{fit-sizes}
-use Rattle.readoff.specs.declared.Told.the-variants.{Refused}
+use Rattle.job.specs.declared.Refusal.{Refusal}
+use Rattle.job.specs.Answers.{refuses}
 use Rattle.totals.proofs.AnswerLaws.{totals-fit, totals-unfit}
 use Rattle.readoff.proofs.AnswerLaws.{fit-read, unfit-read}
 use Rattle.readoff.proofs.read_off.Statement.{statement}
@@ -44,7 +45,7 @@ returns-2 c =
     let a = c .before .before .before .before .before .before .args in
     let f = totals-unfit (a .j) _ (totals .ensures) _ (refusal .given .1) in
     let e = unfit-read (a .j) (a .values .now) (a .run .now) (f .0) in
-    (ap Refused (f .1) ∙ ap (λ o. o .answer) e, ap (λ o. o .buffer) e)
+    (ap (λ (y : Refusal). refuses (y .number) (y .place)) (f .1) ∙ ap (λ o. o .answer) e, ap (λ o. o .buffer) e)
 
 pub read-off-spec : {M : Type 1} → statement M
 read-off-spec =
