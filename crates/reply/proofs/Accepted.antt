@@ -44,7 +44,8 @@ module _ (J : Job) (reply work buffer : List ℕ) where
       let vs : s .said ≡ valuesListed N ls = c .are ∙ values-listed N ls (distinct .none-twice) in
       let (_, (true-all, _)) = passed _ (s .satisfied) in
       let tests : map (anyTrue (valueAt (s .said))) (clauses J) ≡ map (anyListed ls) (clauses J) =
-      ap (λ us. map (anyTrue (valueAt us)) (clauses J)) vs ∙ all-listed N ls (distinct .none-twice) all (clauses J) (in-range J (s .fits)) in
+      ap (λ us. map (anyTrue (valueAt us)) (clauses J)) vs
+      ∙ all-listed N ls (distinct .none-twice) all (clauses J) (in-range J (s .fits)) in
       record {
         fits = s .fits;
         room = s .room;

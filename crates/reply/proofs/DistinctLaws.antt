@@ -81,7 +81,8 @@ module _ (N : ℕ) where
             go (inl q) = eqb-true (says m x) 0 q
             go (inr q) = let z : true ≡ false = rw q at h in absurd (true≢false z)
 
-        takes : (m : List Literal) (on : Bool) (x : ℕ) → x < N → not (eqb (says m x) 0) ≡ false → (Distinct N (valued on x ∷ m) → Distinct N ls)
+        takes : (m : List Literal) (on : Bool) (x : ℕ) → x < N → not (eqb (says m x) 0) ≡ false
+            → (Distinct N (valued on x ∷ m) → Distinct N ls)
             → (Distinct N m → Distinct N ls) × (x < maxNumber) × (false ≡ false) × (valued on x ∷ m ≡ valued on x ∷ m)
         takes m true x l h g = (λ d. g (one-more (On x) m l (unsaid m x h) d), omega arith, refl, refl)
         takes m false x l h g = (λ d. g (one-more (Off x) m l (unsaid m x h) d), omega arith, refl, refl)

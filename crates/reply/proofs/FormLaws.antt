@@ -93,7 +93,8 @@ module _ {S : Type 0} (A B : Store S) (N M : ℕ) (Good : S → Type 0)
       onB : S → Told S
       onB m′ = valueLinesIn B M (suc k) m′ ps
 
-      next : (m′ : S) (q : Part S) (t : Told S) → (Good m′ → Good m × (q ≡ more m′)) → KeptTold m′ t (onB m′) → KeptTold m t (after k q ps onB)
+      next : (m′ : S) (q : Part S) (t : Told S) → (Good m′ → Good m × (q ≡ more m′)) → KeptTold m′ t (onB m′)
+          → KeptTold m t (after k q ps onB)
       next m′ q (halted c j m″) h f = tt
       next m′ q (told j qs m″) h f = λ g. let (g′, e) = f g in let (g₀, e₀) = h g′ in (g₀, rw e₀ e)
 
@@ -117,7 +118,13 @@ module _ {S : Type 0} (A B : Store S) (N M : ℕ) (Good : S → Type 0)
       speak (halted c k m′) q h = tt
       speak (told k ps m′) q h = end m′ q (closing k ps) k ps h refl
 
-      go : (o : Opened) → KeptHeard m (started m o (λ k ps. spoken (valueLinesIn A N k m ps))) (started m o (λ k ps. spoken (valueLinesIn B M k m ps)))
+      onA : ℕ → Pieces → Heard S
+      onA k ps = spoken (valueLinesIn A N k m ps)
+
+      onB : ℕ → Pieces → Heard S
+      onB k ps = spoken (valueLinesIn B M k m ps)
+
+      go : (o : Opened) → KeptHeard m (started m o onA) (started m o onB)
       go (stopped c k) = tt
       go (begun k ps) = speak (valueLinesIn A N k m ps) (valueLinesIn B M k m ps) (lines-kept ps k m)
 

@@ -10,4 +10,5 @@ pub mod FormLaws
 pub mod ListedLaws
 pub mod DistinctLaws
 pub mod Accepted
+pub mod PlainReply
 pub mod Examples

@@ -109,7 +109,8 @@ unfolding valuesRead
 read-complete N reply vs e = go (heardIn literals N [] reply) refl e
   where
     said : (ls : List Literal) → heardIn literals N [] reply ≡ whole ls
-        → (ltb (missing N (says ls)) N ≡ true) ⊎ (ltb (missing N (says ls)) N ≡ false) → completed N (whole ls) ≡ values vs → Complete N reply vs
+        → (ltb (missing N (says ls)) N ≡ true) ⊎ (ltb (missing N (says ls)) N ≡ false) → completed N (whole ls) ≡ values vs
+        → Complete N reply vs
     said ls h (inl b) q =
         let r : refusal 64 (suc (missing N (says ls))) ≡ values vs = rw b at q in
         let z : _≡_ {A = ℕ} 0 1 = cc in
