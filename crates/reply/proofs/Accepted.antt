@@ -1,9 +1,9 @@
 -- A reply is accepted exactly when it is acceptable: `accepted-exactly`, since its values satisfy the clauses exactly when every clause
 -- has a listed literal. So demand 3 holds of it: its first N bytes satisfy the clauses and read off as a run.
-use mathlib.Core.Path.{_≡_, refl, sym, ap, _∙_}
-use mathlib.Core.Bool.{Bool, true}
+use mathlib.Core.Path.{_≡_, sym, ap, _∙_}
+use mathlib.Core.Bool.{true}
 use mathlib.Core.List.{List, map}
-use Prim.Native.Nat.{ℕ, _≤_}
+use Prim.Native.Nat.{ℕ}
 use native.Mathlib.Omega.{arith}
 use lib.ListN.{take, drop}
 use lib.Seq.{take-at}
@@ -15,7 +15,6 @@ use Rattle.job.specs.Literals.{anyTrue}
 use Rattle.job.specs.Numbering.{total}
 use Rattle.job.specs.Clauses.{clauses}
 use Rattle.job.specs.Meaning.{Run, isRun}
-use Rattle.job.specs.Fitness.{fit}
 use Rattle.job.specs.Satisfaction.{valueAt, satisfies}
 use Rattle.job.specs.ReadOff.{readOff, run}
 use Rattle.job.proofs.InRange.{in-range}
@@ -25,7 +24,7 @@ use Rattle.reply.specs.Check.{accepted, holding, checked}
 use Rattle.reply.specs.Acceptance.{anyListed, valuesListed, Acceptable, AcceptedExactly}
 use Rattle.reply.proofs.ReplyLaws.{read-complete, complete-reads, read-values}
 use Rattle.reply.proofs.ListedLaws.{values-listed, said-listed, listed-said, all-listed}
-use Rattle.reply.proofs.DistinctLaws.{Distinct, listed-heard, heard-listed}
+use Rattle.reply.proofs.DistinctLaws.{listed-heard, heard-listed}
 use Rattle.reply.proofs.Satisfying.{Satisfying, all-satisfied, accepted-satisfying, satisfying-accepted}
 
 module _ (J : Job) (reply work buffer : List ℕ) where

@@ -1,4 +1,4 @@
--- A reply that lists literals, each number up to N and none twice, is one whose literals are heard at N; and the other way round.
+-- The literals that a reply lists are heard at N exactly when their numbers are at most N and none comes twice.
 use mathlib.Core.Path.{_≡_, refl}
 use mathlib.Core.Bool.{Bool, true, false, not, true≢false}
 use mathlib.Core.Logic.{_⊎_, inl, inr}
@@ -68,6 +68,7 @@ module _ (N : ℕ) where
         takes m true x l h g = (tail-distinct (On x) m g, g .none-past .0, rw (new-first (On x) m g), refl)
         takes m false x l h g = (tail-distinct (Off x) m g, g .none-past .0, rw (new-first (Off x) m g), refl)
 
+    -- from the end back to the start: if what was heard up to here is distinct, so is all of it
     pub heard-listed : N ≤ maxNumber → heardIn literals N [] reply ≡ whole ls → Lists reply ls × Distinct N ls
     unfolding times
     heard-listed most e =

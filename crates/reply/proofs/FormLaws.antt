@@ -1,10 +1,9 @@
--- A reply that one store takes whole, another takes whole too and with the same outcome, where it takes each number that the first one
--- took: `heard-kept`. So a reply lists literals, each number up to N and none twice, exactly when the literals are heard at N.
-use mathlib.Core.Path.{_≡_, refl, ap, _∙_}
-use mathlib.Core.Bool.{Bool, true, false, not, cond}
+-- Two readings of one reply: what store A hears whole, store B hears whole and the same, where B takes each number that A took.
+use mathlib.Core.Path.{_≡_, refl}
+use mathlib.Core.Bool.{Bool, true, false, cond}
 use mathlib.Core.Logic.{_⊎_, inl, inr}
 use mathlib.Core.List.{List, [], _∷_}
-use Prim.Native.Nat.{ℕ, zero, suc, _≤_, _<_}
+use Prim.Native.Nat.{ℕ, zero, suc, _<_}
 use native.Mathlib.Omega.{arith}
 use native.Mathlib.Decide.{decLt}
 use borrow.Author.Tests.{lt-ltb, le-ltb}

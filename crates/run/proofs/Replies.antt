@@ -14,9 +14,9 @@ use Rattle.job.specs.Fitness.{fit}
 use Rattle.job.specs.ReadOff.{runBytes}
 use Rattle.reply.specs.Reply.{values, valuesRead}
 use Rattle.reply.specs.Check.{accepted, maxReply, holding, checked}
-use Rattle.reply.specs.Acceptance.{Acceptable}
 use Rattle.reply.proofs.ReplyLaws.{read-values}
-use Rattle.reply.proofs.Accepted.{acceptable, accepts, accepted-satisfies}
+use Rattle.reply.proofs.Satisfying.{Satisfying, accepted-satisfying, satisfying-accepted}
+use Rattle.reply.proofs.Accepted.{accepted-satisfies}
 use Rattle.readoff.specs.declared.Told.the-variants.{Written}
 use Rattle.readoff.specs.ReadingOff.{readingOff}
 use Rattle.readoff.proofs.FrontLaws.{reads-front}
@@ -41,9 +41,9 @@ module _ (J : Job) (h : fit J ≡ true) where
       → (forRun forValues : List ℕ) → Room J forRun forValues
       → (readingOff J buffer forRun .answer ≡ Written) × ThereAndBack J (runIn J (readingOff J buffer forRun)) forRun forValues
   accepted-read reply work buffer is forRun forValues space =
-      let a = acceptable J reply work buffer is in
-      let long = read-values N reply (a .said) (a .reads) .long in
-      let e = reads-front J buffer forRun (rw (a .holds) (room J work (a .said) long)) in
+      let s = accepted-satisfying J reply work buffer is in
+      let long = read-values N reply (s .said) (s .reads) .long in
+      let e = reads-front J buffer forRun (rw (s .holds) (room J work (s .said) long)) in
       rw e at (accurate-calls J h .values-read (take N buffer) (accepted-satisfies J reply work buffer is) forRun forValues space)
 
   run-accepted : (R : Run) → isRun J R ≡ true → (forRun forValues : List ℕ) → Room J forRun forValues
@@ -53,7 +53,7 @@ module _ (J : Job) (h : fit J ≡ true) where
   run-accepted R is forRun forValues space reply work wide short vs e reads =
       let (back, _) = accurate-calls J h .run-bytes R is forRun forValues space in
       let long = read-values N reply vs reads .long in
-      let acceptance : Acceptable J reply work (holding N work vs) = record {
+      let satisfying : Satisfying J reply work (holding N work vs) = record {
         fits = h;
         room = wide;
         short = short;
@@ -64,7 +64,7 @@ module _ (J : Job) (h : fit J ≡ true) where
       } in
       let whole = reads-front J (holding N work vs) forRun (room J work vs long) in
       let part = ap (λ us. readingOff J us forRun) (front J work vs long ∙ e) in
-      (accepts J reply work (holding N work vs) acceptance, ap (runIn J) (sym whole ∙ part) ∙ back .back)
+      (satisfying-accepted J reply work (holding N work vs) satisfying, ap (runIn J) (sym whole ∙ part) ∙ back .back)
 
 pub accurate-replies : (J : Job) → fit J ≡ true → AccurateReplies J
 accurate-replies J h = record { accepted-read = accepted-read J h; run-accepted = run-accepted J h }
