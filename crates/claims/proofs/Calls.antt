@@ -12,6 +12,7 @@ use lib.Seq.{take-at, length-take-le}
 use Rattle.lists.specs.Writing.{write}
 use Rattle.lists.proofs.TestLaws.{passed}
 use Rattle.job.specs.declared.Job.{Job}
+use Rattle.job.specs.Answers.{gives}
 use Rattle.job.specs.declared.Program.{Program}
 use Rattle.job.specs.Table.{r}
 use Rattle.job.specs.Meaning.{Run, isRun}
@@ -23,13 +24,12 @@ use Rattle.job.specs.RunToValues.{runOf, valuesOf, runFault}
 use Rattle.job.proofs.Accuracy.{accuracy}
 use Rattle.job.proofs.MeaningLaws.{run-is}
 use Rattle.job.proofs.ValueLaws.{length-values}
-use Rattle.readoff.specs.declared.Told.the-variants.{Written}
 use Rattle.readoff.specs.ReadingOff.{Outcome, refusal, written, runLength, readingFit, readingOff}
 use Rattle.readoff.proofs.AnswerLaws.{fit-read}
 use Rattle.readoff.proofs.FrontLaws.{reads-front}
 use Rattle.values.specs.ToValues.{givingValues}
 use Rattle.claims.specs.Calls.{runIn, valuesIn, Room, ThereAndBack, AccurateCalls}
-use Rattle.values.proofs.GivingLaws.{fault-most, short-run, breaks, gives, fit-given}
+use Rattle.values.proofs.GivingLaws.{fault-most, short-run, breaks, gives-values, fit-given}
 use Rattle.claims.proofs.RunBytes.{length-bytes, run-back, no-fault, fault-free, bytes-back}
 
 -- what is written at 0 is the stated part
@@ -60,7 +60,7 @@ module _ (J : Job) (h : fit J ≡ true) where
   -- bytes without a fault are given values
   gives-as : (bs buffer : List ℕ) → runFault J bs ≡ suc (r P) → runLength P ≤ length bs → total P ≤ length buffer
       → givingValues J bs buffer ≡ written (valuesOf P (runOf P bs)) buffer
-  gives-as bs buffer e room place = sym (gives J bs buffer place room (suc (r P)) (sym e) (omega arith) ∙ fit-given J bs buffer h)
+  gives-as bs buffer e room place = sym (gives-values J bs buffer place room (suc (r P)) (sym e) (omega arith) ∙ fit-given J bs buffer h)
 
   -- ---- there and back
 
@@ -118,7 +118,7 @@ module _ (J : Job) (h : fit J ≡ true) where
       (there-and-back (runBytes P R ++ rest) forRun forValues room long (no-fault J R q rest is), run-back J R q rest)
 
   of-values : (vs : List ℕ) → satisfies J (take (total P) vs) ≡ true → (forRun forValues : List ℕ) → Room J forRun forValues
-      → (readingOff J vs forRun .answer ≡ Written) × ThereAndBack J (readingOff J vs forRun .buffer) forRun forValues
+      → (readingOff J vs forRun .answer ≡ gives tt) × ThereAndBack J (readingOff J vs forRun .buffer) forRun forValues
   of-values vs s forRun forValues room =
       let (R, e, is) = accuracy J h .reads-off (take (total P) vs) s in
       let size = satisfying-length J (take (total P) vs) s in
@@ -127,11 +127,11 @@ module _ (J : Job) (h : fit J ≡ true) where
       (ap (λ o. o .answer) o, rw o (of-a-run R is (drop (0 + length (runBytes P R)) forRun) forRun forValues room .0))
 
   -- an answer that is no refusal says that the bytes are as many as a run's, and that no rule is broken
-  unbroken : (bs buffer : List ℕ) → total P ≤ length buffer → givingValues J bs buffer .answer ≡ Written
+  unbroken : (bs buffer : List ℕ) → total P ≤ length buffer → givingValues J bs buffer .answer ≡ gives tt
       → (runLength P ≤ length bs) × (runFault J bs ≡ suc (r P))
   unbroken bs buffer place w = enough (decLt (length bs) (runLength P))
     where
-      refused : {x : Outcome} (number k : ℕ) → refusal number k buffer ≡ x → x .answer ≡ Written → ⊥
+      refused : {x : Outcome} (number k : ℕ) → refusal number k buffer ≡ x → x .answer ≡ gives tt → ⊥
       refused {x} number k e a = let z : _≡_ {A = ℕ} 0 1 = cc (ap (λ o. o .answer) e) in absurd (omega arith)
 
       go : runLength P ≤ length bs → Dec (runFault J bs < suc (r P)) → runFault J bs ≡ suc (r P)
@@ -144,7 +144,7 @@ module _ (J : Job) (h : fit J ≡ true) where
       enough (no l) = let long : runLength P ≤ length bs = omega arith in (long, go long (decLt (runFault J bs) (suc (r P))))
 
   of-bytes : (bs : List ℕ) → (forRun forValues : List ℕ) → Room J forRun forValues
-      → givingValues J bs forValues .answer ≡ Written → ThereAndBack J bs forRun forValues
+      → givingValues J bs forValues .answer ≡ gives tt → ThereAndBack J bs forRun forValues
   of-bytes bs forRun forValues room w =
       let (long, whole) = unbroken bs forValues (room .values) w in
       there-and-back bs forRun forValues room long whole

@@ -1,4 +1,5 @@
--- The proofs of demand 3 about the calls (start at Calls, then Replies), and the laws of a run and its bytes.
+-- The claims hold: start at Claims. Calls and Replies are demand 3 about the calls, RunBytes the laws of a run and its bytes.
 pub mod RunBytes
 pub mod Calls
 pub mod Replies
+pub mod Claims

@@ -1,1 +1,1 @@
-// Demand 3 about the calls that check a reply, read off a run and turn a run into values: statements and their proofs, no code.
+// What is claimed of every accepted text, on one page (specs/Claims), and the proofs: no code.

@@ -28,9 +28,10 @@ use Rattle.parse.specs.Labels.{targetOf, aim, enterTo, enterOther, on, linkStep
 use Rattle.parse.specs.Lemmas.{filled, words, bare, itemIn, named, lemma, whole, lemmaLine, lemmaLines}
 use Rattle.parse.specs.Reading.{fromLemmas, reading}
 use Rattle.order.specs.Sorting.{insert, sort, fromLeft, keep}
+use Rattle.job.specs.Literals.{has}
 use Rattle.job.specs.Table.{lemma as lemmaAt}
 use Rattle.put.specs.Names.{nameAt}
-use Rattle.form.specs.Lemmas.{has, bothSigns, remaining, filed}
+use Rattle.form.specs.Lemmas.{bothSigns, remaining, filed}
 use Rattle.form.specs.Form.{kept, nameOf, spelt, spaced, ended, form}
 
 unfoldable bytes : String → List ℕ

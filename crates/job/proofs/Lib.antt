@@ -2,6 +2,7 @@
 pub mod Good
 pub mod SignLaws
 pub mod FitnessLaws
+pub mod InRange
 pub mod SatLaws
 pub mod ExclusionLaws
 pub mod MeaningLaws

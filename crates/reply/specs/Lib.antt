@@ -5,4 +5,5 @@ pub mod Lines
 pub mod Reply
 pub mod Check
 pub mod Acceptance
+pub mod PlainReply
 pub mod Answers

@@ -1,20 +1,8 @@
--- Bytes, and numbers in decimal.
+-- Numbers in decimal.
 use mathlib.Core.Bool.{Bool, true, false}
 use mathlib.Core.List.{List, [], _∷_, _++_}
 use Prim.Native.Nat.{ℕ, zero, suc, _+_, _/_, _%_}
 use lib.Dec.{ltb}
-
-abbrev pub lf : ℕ
-lf = 10
-
-abbrev pub space : ℕ
-space = 32
-
-abbrev pub equals : ℕ
-equals = 61
-
-abbrev pub minus : ℕ
-minus = 45
 
 -- the byte of a digit
 abbrev pub digit : ℕ → ℕ

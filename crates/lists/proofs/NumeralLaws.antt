@@ -1,15 +1,16 @@
--- Laws of numerals: the last digit and those before it, and how many there are.
+-- Laws of numerals: the last digit and those before it, how many there are, and that each is a digit, the first not 0.
 use mathlib.Core.Path.{_≡_, refl, ap}
 use mathlib.Core.Bool.{Bool, true, false}
 use mathlib.Core.Logic.{_⊎_, inl, inr}
-use mathlib.Core.List.{[], _∷_, _++_}
+use mathlib.Core.List.{List, [], _∷_, _++_}
 use Prim.Native.Nat.{ℕ, zero, suc, _+_, _^_, _≤_, _<_, _/_, _%_}
 use native.Mathlib.Omega.{arith}
 use borrow.Author.Tests.{ltb-true, ltb-false, lt-ltb, le-ltb}
 use lib.Dec.{ltb}
 use lib.ListN.{length, length-append}
+use Rattle.lists.specs.Numerals.{digit, higher, digitsBelow, numeral}
 use Rattle.lists.proofs.Logic.{split}
-use Rattle.text.specs.Numerals.{digit, higher, digitsBelow, numeral}
+use Rattle.lists.proofs.PieceLaws.{Without}
 
 -- the digits are the same for every k above x
 enough : (k j x : ℕ) → x < k → x < j → digitsBelow k x ≡ digitsBelow j x
@@ -91,3 +92,59 @@ length-few (suc k) x h = go (split (ltb x 10)) (length-few k (x / 10) (omega ari
 -- a number of 64 bits
 pub length-word : (x : ℕ) → x < 18446744073709551616 → length (numeral x) ≤ 20
 length-word x h = length-few 19 x (omega arith)
+
+-- ---- each byte is a digit
+
+abbrev pub Digits : List ℕ → Type 0
+Digits [] = Unit {0}
+Digits (b ∷ bs) = ((digit 0 ≤ b) × (b ≤ digit 9)) × Digits bs
+
+digits-append : (a b : List ℕ) → Digits a → Digits b → Digits (a ++ b)
+digits-append [] b h l = l
+digits-append (x ∷ a) b h l = (h .0, digits-append a b (h .1) l)
+
+digits-below : (k x : ℕ) → Digits (digitsBelow k x)
+unfolding digitsBelow
+digits-below zero x = tt
+digits-below (suc k) x =
+    digits-append (higher (ltb x 10) (digitsBelow k) (x / 10)) (digit (x % 10) ∷ []) (go (ltb x 10) (digits-below k (x / 10)))
+    ((omega arith, omega arith), tt)
+  where
+    go : (b : Bool) → Digits (digitsBelow k (x / 10)) → Digits (higher b (digitsBelow k) (x / 10))
+    go true h = tt
+    go false h = h
+
+pub digits-numeral : (x : ℕ) → Digits (numeral x)
+unfolding numeral
+digits-numeral x = digits-below (suc x) x
+
+-- a byte below the digits, such as a space or LF, is not among them
+pub digits-without : (k : ℕ) → k < digit 0 → (ds : List ℕ) → Digits ds → Without k ds
+digits-without k l [] h = tt
+digits-without k l (b ∷ ds) h = (λ e. omega (arith, h .0 .0), digits-without k l ds (h .1))
+
+-- ---- the first is not 0
+
+abbrev pub NoLeadingZero : List ℕ → Type 0
+NoLeadingZero [] = ⊥
+NoLeadingZero (b ∷ bs) = digit 0 < b
+
+leading-append : (a b : List ℕ) → NoLeadingZero a → NoLeadingZero (a ++ b)
+leading-append [] b h = absurd h
+leading-append (x ∷ a) b h = h
+
+leading-below : (k x : ℕ) → 0 < x → x < k → NoLeadingZero (digitsBelow k x)
+unfolding digitsBelow
+leading-below zero x h l = absurd (omega arith)
+leading-below (suc k) x h l = go (split (ltb x 10)) (leading-below k (x / 10))
+  where
+    go : (ltb x 10 ≡ true) ⊎ (ltb x 10 ≡ false) → (0 < x / 10 → x / 10 < k → NoLeadingZero (digitsBelow k (x / 10)))
+        → NoLeadingZero (higher (ltb x 10) (digitsBelow k) (x / 10) ++ (digit (x % 10) ∷ []))
+    go (inl e) f = let i = ltb-true x 10 e in rw e (omega arith)
+    go (inr e) f =
+        let i = ltb-false x 10 e in
+        rw e (leading-append (digitsBelow k (x / 10)) (digit (x % 10) ∷ []) (f (omega arith) (omega arith)))
+
+pub leading-numeral : (x : ℕ) → NoLeadingZero (numeral (suc x))
+unfolding numeral
+leading-numeral x = leading-below (suc (suc x)) (suc x) (omega arith) (omega arith)
