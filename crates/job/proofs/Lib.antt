@@ -17,4 +17,5 @@ pub mod MarkedCases
 pub mod OneBitListing
 pub mod LargerListing
 pub mod Listings
-pub mod Examples
+pub mod FitCases
+pub mod RunCases

@@ -15,3 +15,5 @@ pub mod RunToValues
 pub mod Accuracy
 pub mod OneBit
 pub mod Cases
+pub mod FitCases
+pub mod RunCases

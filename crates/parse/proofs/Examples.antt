@@ -32,7 +32,7 @@ use Rattle.parse.specs.Reading.{fromLemmas, reading}
 use Rattle.parse.specs.declared.Verdict.{Verdict}
 use Rattle.parse.specs.declared.Verdict.the-variants.{Accepted}
 
-unfoldable bytes : String → List ℕ
+unfoldable pub bytes : String → List ℕ
 bytes end = []
 bytes (c then cs) = code c ∷ bytes cs
 
@@ -40,7 +40,7 @@ unfoldable verdict : String → Verdict
 verdict text = reading (bytes text) .verdict
 
 -- 01, 'A job in full'
-abbrev oneBit : String
+abbrev pub oneBit : String
 oneBit = "bound 1\n~ one bit\nA0 a=1 goto A0\nB0 maybe goto B0\nlemmas\n"
 
 -- its table
