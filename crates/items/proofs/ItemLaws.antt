@@ -13,7 +13,7 @@ use Rattle.lists.proofs.TestLaws.{within-under, within-over, within-is}
 use Rattle.job.specs.Limits.{maxSteps}
 use Rattle.scan.specs.Names.{lookup}
 use Rattle.scan.specs.declared.Found.the-variants.{At, Nothing}
-use Rattle.items.specs.Items.{pickNamed, knownIn}
+use Rattle.items.specs.Items.{pickNamed, namedIn, knownIn}
 use Rattle.items.specs.declared.Named.the-variants.{Item, Unknown}
 
 -- a part that lies in the line
@@ -31,18 +31,26 @@ module _ (labels names : List ℕ) (m n : ℕ) (w : List ℕ) where
   pub many-variables : maxSteps < n → Unknown ≡ knownIn labels names m n w
   many-variables h = rw (lt-leb n maxSteps h, and-no (leb m maxSteps))
 
+  pub in-limits : m ≤ maxSteps → n ≤ maxSteps → knownIn labels names m n w ≡ namedIn labels names m n w
+  in-limits h k = rw (le-leb m maxSteps h, le-leb n maxSteps k)
+
   pub name-empty : length w < 1 → Unknown ≡ knownIn labels names m n w
+  unfolding namedIn
   name-empty h = rw (within-under 1 4 (length w) h) (either-unknown (leb m maxSteps && leb n maxSteps))
 
   pub name-long : 4 < length w → Unknown ≡ knownIn labels names m n w
+  unfolding namedIn
   name-long h = rw (within-over 1 4 (length w) h) (either-unknown (leb m maxSteps && leb n maxSteps))
 
   module _ (steps : m ≤ maxSteps) (variables : n ≤ maxSteps) (some : 1 ≤ length w) (short : length w ≤ 4) where
     pub step-found : (i : ℕ) → lookup labels m w ≡ At i → Item (i + 1) ≡ knownIn labels names m n w
+    unfolding namedIn
     step-found i e = rw (le-leb m maxSteps steps, le-leb n maxSteps variables, within-is 1 4 (length w) some short, e)
 
     pub variable-found : (i : ℕ) → lookup labels m w ≡ Nothing → lookup names n w ≡ At i → Item (m + i + 1) ≡ knownIn labels names m n w
+    unfolding namedIn
     variable-found i e f = rw (le-leb m maxSteps steps, le-leb n maxSteps variables, within-is 1 4 (length w) some short, e, f)
 
     pub none-found : lookup labels m w ≡ Nothing → lookup names n w ≡ Nothing → Unknown ≡ knownIn labels names m n w
+    unfolding namedIn
     none-found e f = rw (le-leb m maxSteps steps, le-leb n maxSteps variables, within-is 1 4 (length w) some short, e, f)

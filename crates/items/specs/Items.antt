@@ -26,7 +26,7 @@ namedAt Nothing (At i) m = Item (m + i + 1)
 namedAt Nothing Nothing m = Unknown
 
 -- a name has 1 to 4 bytes
-abbrev pub namedIn : List ℕ → List ℕ → ℕ → ℕ → List ℕ → Named
+unfoldable pub namedIn : List ℕ → List ℕ → ℕ → ℕ → List ℕ → Named
 namedIn labels names m n w = pickNamed (within 1 4 (length w)) (namedAt (lookup labels m w) (lookup names n w) m) Unknown
 
 -- a table has at most 100 steps and as many variables: where m or n is more, no name is known
