@@ -9,8 +9,8 @@ import tempfile
 import programs
 import tables
 
-# Around what is lent. It begins and ends with LF, so that a reader that goes too far would find one more line there.
-GUARD = b"\n" + bytes(range(255, 0, -1)) * 4 + b"\n"
+# Around what is lent; no byte of it is 0. It begins and ends with LF: a reader that goes too far would find one more line there.
+GUARD = b"\n~" + bytes(range(255, 0, -1)) * 4 + b"~\n"
 
 
 class Answer(ctypes.Structure):
@@ -36,6 +36,7 @@ def table(reading):
 
 
 NO_TABLE = table(Reading())   # of zeros
+LENT = [ctypes.c_void_p, ctypes.c_size_t]
 
 
 class Lent:
@@ -81,47 +82,59 @@ def proved(crate="foreign"):
     return shared("-Wl,--whole-archive", programs.library(crate), "-Wl,--no-whole-archive")
 
 
-def function(library, name, result, first, lent):
-    """A function of a library, which takes what comes first, then an address and a length for each thing lent."""
-    found = getattr(library, name)
-    found.argtypes = [*first, *[ctypes.c_void_p, ctypes.c_size_t] * lent]
-    found.restype = result
-    return found
-
-
 def call(library, name):
     """A call that takes a table, what it reads and the buffer that it writes; it gives number (0: none), place and the buffer."""
-    asked = function(library, name, Answer, [tables.Table], 2)
+    function = getattr(library, name)
+    function.argtypes = [tables.Table, *LENT, *LENT]
+    function.restype = Answer
 
     def answer(table, read, buffer):
-        a, held = answered(asked, [table], read, buffer)
+        a, held = answered(function, [table], read, buffer)
         return number(a), a.place, held
+
+    return answer
+
+
+def large(library, name, result, lent):
+    """A function whose answer has more than 16 bytes. On x86-64 its caller says first where the answer goes: here to bytes that are not 0,
+    so that a field is seen that the function did not write."""
+    function = getattr(library, name)
+    function.argtypes = [ctypes.c_void_p, *LENT * lent]
+    function.restype = ctypes.c_void_p
+
+    def answer(*words):
+        room = Lent((GUARD * 20)[: ctypes.sizeof(result)])
+        function(room.address, *words)
+        return result.from_buffer_copy(room.held())
 
     return answer
 
 
 def filing():
     """The call of C itself: a text and its length, a buffer and its length."""
-    return function(proved("file_ffi"), "file_job", FormAnswer, [], 2)
+    function = proved("file_ffi").file_job
+    function.argtypes = [*LENT, *LENT]
+    function.restype = FormAnswer
+    return function
 
 
 def filer():
     """Filing, which takes a text and the buffer that it writes; it gives number (0: none), place, length and the buffer."""
-    asked = filing()
+    function = large(proved("file_ffi"), "file_job", FormAnswer, 2)
 
     def answer(text, buffer):
-        a, held = answered(asked, [], text, buffer)
+        a, held = answered(function, [], text, buffer)
         return number(a), a.place, a.length, held
 
     return answer
 
 
 def reader():
-    """Reading, which takes a text; it gives number (0: none), place and the table, each field by its name."""
-    asked = function(proved("parse_ffi"), "read_job", Reading, [], 1)
+    """Reading, which takes a text; it gives number (0: none), place and the table."""
+    function = large(proved("parse_ffi"), "read_job", Reading, 1)
 
     def answer(text):
-        (a,) = answered(asked, [], text)
+        (a,) = answered(function, [], text)
         return number(a), a.place, table(a)
 
     return answer
