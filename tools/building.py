@@ -8,6 +8,7 @@ import threading
 import time
 
 PROGRAMS = ["sat_mutex", "show_run", "file_job"]
+PIPES = {"stdout": subprocess.PIPE, "stderr": subprocess.STDOUT, "text": True, "errors": "replace"}
 
 
 class Failed(Exception):
@@ -96,9 +97,8 @@ def must_be_new(root, crate, built):
 def prove(root):
     """rt's lines: those that it begins with its name tell of a crate, the others what is wrong. Who stops waiting stops the provers."""
     details = []
-    pipes = {"stdout": subprocess.PIPE, "stderr": subprocess.STDOUT, "text": True, "errors": "replace"}
     with Progress(len(needed(root, PROGRAMS))) as progress:
-        rt = subprocess.Popen(["rt", "check", *PROGRAMS], cwd=root, start_new_session=True, **pipes)
+        rt = subprocess.Popen(["rt", "check", *PROGRAMS], cwd=root, start_new_session=True, **PIPES)
         try:
             for line in map(str.rstrip, rt.stdout):
                 if line.startswith("rt: ") and " proved" in line and not line.startswith("rt: ok"):
@@ -152,7 +152,7 @@ def library(root, crate, say):
         ask_for_rt(why)
         say(f"{why}: it is built.")
         begin = time.time()
-        rt = subprocess.run(["rt", "staticlib", crate], cwd=root, stdout=subprocess.PIPE, stderr=subprocess.STDOUT, text=True, errors="replace")
+        rt = subprocess.run(["rt", "staticlib", crate], cwd=root, **PIPES)
         if rt.returncode:
             raise Failed("\n".join([f"{path.name} could not be built", *rt.stdout.splitlines()[-20:]]))
         date([path], begin)

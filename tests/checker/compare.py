@@ -100,7 +100,8 @@ def compared(check, how_many, seed):
     for i in range(how_many):
         table, variables, clauses, solution = jobs[i % len(jobs)]
         text = replies.reply(r, variables, solution)
-        size = r.choice([variables, variables + 1, variables + r.randrange(1, 300), r.randrange(variables) if r.random() < 0.2 else variables])
+        short = r.randrange(variables) if r.random() < 0.2 else variables
+        size = r.choice([variables, variables + 1, variables + r.randrange(1, 300), short])
         buffer = bytes(r.randrange(256) for _ in range(size))
         want = checker.check(variables, clauses, text, buffer)
         got = check(table, text, buffer)
