@@ -35,6 +35,12 @@ def path(program):
     return as_new(program, lambda: building.build(ROOT, BIN, say) or BIN / program)
 
 
+def all_new():
+    """For a test that runs ./practice, which without rt takes old programs as they are."""
+    for program in building.PROGRAMS:
+        path(program)
+
+
 def library(crate):
     return as_new(crate, lambda: building.library(ROOT, crate, say))
 
