@@ -1,16 +1,15 @@
--- The table without its names, and the answer.
-use mathlib.Core.Bool.{cond}
+-- The table without its names, and the answer, as C lays them out.
+use mathlib.Core.Bool.{true, false}
 use mathlib.Core.List.{List}
 use Prim.Native.Nat.{ℕ, _*_}
 use lib.ListN.{replicate}
 use Rattle.job.specs.declared.Job.{Job}
 use Rattle.job.specs.declared.Program.{Program}
 use Rattle.job.specs.Limits.{maxSteps}
+use Rattle.job.specs.Answers.{Answer, gives, refuses}
 use Rattle.reply.specs.Check.{Outcome, accepted, refused}
-use Rattle.readoff.specs.declared.Told.{Told}
-use Rattle.readoff.specs.declared.Told.the-variants.{Written, Refused}
 use Rattle.foreign.specs.declared.Table.{Table}
-use Rattle.foreign.specs.declared.Answer.{Answer}
+use Rattle.foreign.specs.declared.Answer.{Answer as AnswerInC}
 
 abbrev pub programOf : Table → Program
 programOf t = record {
@@ -36,10 +35,16 @@ jobOf t = record {
   items = t .items;
 }
 
--- accepted, or refused with number and place
-abbrev pub outcomeOf : Answer → List ℕ → Outcome
-outcomeOf a work = cond (a .accepted) (accepted work) (refused (a .number) (a .place) work)
+-- acceptance, with number and place 0, or number and place of a refusal
+abbrev pub inC : Answer (Unit {0}) → AnswerInC
+inC (gives _) = record { accepted = true; number = 0; place = 0 }
+inC (refuses number place) = record { accepted = false; number = number; place = place }
 
--- the same of reading off and run to values
-abbrev pub toldOf : Answer → Told
-toldOf a = cond (a .accepted) Written (Refused (record { number = a .number; place = a .place }))
+-- the checker's answer, and its working buffer
+abbrev pub answerIn : Outcome → Answer (Unit {0})
+answerIn (accepted work) = gives tt
+answerIn (refused number place work) = refuses number place
+
+abbrev pub bufferIn : Outcome → List ℕ
+bufferIn (accepted work) = work
+bufferIn (refused number place work) = work

@@ -1,9 +1,10 @@
 // The checker, reading off and run to values for a caller in C: the tests hold them to second ones.
 ghost use mathlib.Core.Path.{_≡_};
 ghost use Rattle.reply.specs.Check.{checked};
+ghost use Rattle.readoff.specs.Answers.{answerOf};
 ghost use Rattle.readoff.specs.ReadingOff.{readingOff};
 ghost use Rattle.values.specs.ToValues.{givingValues};
-ghost use Rattle.foreign.specs.Foreign.{programOf, jobOf, outcomeOf, toldOf};
+ghost use Rattle.foreign.specs.Foreign.{programOf, jobOf, inC, answerIn, bufferIn};
 use job::Job;
 use job::Program;
 use readoff::Told;
@@ -26,7 +27,7 @@ pub struct Table {
     pub items: [i16; Job::LEMMAS * Job::NAMES],
 }
 
-// Acceptance, or the number and place of a refusal.
+// Acceptance, with number and place 0, or the number and place of a refusal.
 #[repr(C)]
 pub struct Answer {
     pub accepted: bool,
@@ -73,52 +74,55 @@ fn job_of(t: Table) -> Job
     }
 }
 
+fn flat(accepted: bool, number: u8, place: usize) -> Answer
+    ensures { λ r. ⌜ r ≡ record { accepted = accepted; number = number; place = place } ⌝ }
+{
+    Answer {
+        accepted,
+        number,
+        place,
+    }
+}
+
 #[no_mangle]
 pub extern "C" fn check_reply(t: Table, reply: &[u8], work: &mut [u8]) -> Answer
-    ensures { λ r. ⌜ outcomeOf r (now (work .exit)) ≡ checked (jobOf t) (now (reply .entry)) (now (work .entry)) ⌝ }
+    ensures { λ r. ⌜
+        (r ≡ inC (answerIn (checked (jobOf t) (now (reply .entry)) (now (work .entry)))))
+        × (now (work .exit) ≡ bufferIn (checked (jobOf t) (now (reply .entry)) (now (work .entry))))
+        ⌝ }
 {
     let r = reply::check(job_of(t), reply, work);
     match r {
-        Checked::Accepted => Answer {
-            accepted: true,
-            number: 0,
-            place: 0,
-        },
-        Checked::Refused(r) => Answer {
-            accepted: false,
-            number: r.number,
-            place: r.place,
-        },
+        Checked::Accepted => flat(true, 0, 0),
+        Checked::Refused(r) => flat(false, r.number, r.place),
     }
 }
 
 fn answer_of(told: Told) -> Answer
-    ensures { λ r. ⌜ toldOf r ≡ told ⌝ }
+    ensures { λ r. ⌜ r ≡ inC (answerOf told) ⌝ }
 {
     match told {
-        Told::Written => Answer {
-            accepted: true,
-            number: 0,
-            place: 0,
-        },
-        Told::Refused(r) => Answer {
-            accepted: false,
-            number: r.number,
-            place: r.place,
-        },
+        Told::Written => flat(true, 0, 0),
+        Told::Refused(r) => flat(false, r.number, r.place),
     }
 }
 
 #[no_mangle]
 pub extern "C" fn read_off(t: Table, values: &[u8], run: &mut [u8]) -> Answer
-    ensures { λ r. ⌜ (toldOf r ≡ readingOff (jobOf t) (now (values .entry)) (now (run .entry)) .answer) × (now (run .exit) ≡ readingOff (jobOf t) (now (values .entry)) (now (run .entry)) .buffer) ⌝ }
+    ensures { λ r. ⌜
+        (r ≡ inC (readingOff (jobOf t) (now (values .entry)) (now (run .entry)) .answer))
+        × (now (run .exit) ≡ readingOff (jobOf t) (now (values .entry)) (now (run .entry)) .buffer)
+        ⌝ }
 {
     answer_of(readoff::read_off(job_of(t), values, run))
 }
 
 #[no_mangle]
 pub extern "C" fn run_to_values(t: Table, run: &[u8], values: &mut [u8]) -> Answer
-    ensures { λ r. ⌜ (toldOf r ≡ givingValues (jobOf t) (now (run .entry)) (now (values .entry)) .answer) × (now (values .exit) ≡ givingValues (jobOf t) (now (run .entry)) (now (values .entry)) .buffer) ⌝ }
+    ensures { λ r. ⌜
+        (r ≡ inC (givingValues (jobOf t) (now (run .entry)) (now (values .entry)) .answer))
+        × (now (values .exit) ≡ givingValues (jobOf t) (now (run .entry)) (now (values .entry)) .buffer)
+        ⌝ }
 {
     answer_of(values::run_to_values(job_of(t), run, values))
 }

@@ -1,14 +1,13 @@
--- A reading, flat: its verdict and its table.
+-- A reading as C lays it out: acceptance, with number and place 0, or number and place of a refusal; and the table, flat.
 use mathlib.Core.Bool.{Bool, true, false}
 use Prim.Native.Nat.{ℕ}
 use Rattle.job.specs.declared.Job.{Job}
-use Rattle.parse.specs.declared.Verdict.{Verdict}
-use Rattle.parse.specs.declared.Verdict.the-variants.{Accepted, Refused}
-use Rattle.parse.specs.declared.Reading.{Reading}
-use Rattle.parse_ffi.specs.declared.Answer.{Answer}
+use Rattle.job.specs.Answers.{Answer, gives, refuses}
+use Rattle.parse.specs.Reading.{Outcome}
+use Rattle.parse_ffi.specs.declared.Answer.{Answer as AnswerInC}
 
-abbrev pub answerOf : Bool → ℕ → ℕ → Job → Answer
-answerOf accepted number place j = record {
+abbrev pub flat : Bool → ℕ → ℕ → Job → AnswerInC
+flat accepted number place j = record {
   accepted = accepted;
   number = number;
   place = place;
@@ -28,9 +27,9 @@ answerOf accepted number place j = record {
   items = j .items;
 }
 
-abbrev pub answered : Verdict → Job → Answer
-answered Accepted j = answerOf true 0 0 j
-answered (Refused q) j = answerOf false (q .number) (q .place) j
+abbrev pub answered : Answer (Unit {0}) → Job → AnswerInC
+answered (gives _) j = flat true 0 0 j
+answered (refuses number place) j = flat false number place j
 
-abbrev pub told : Reading → Answer
-told r = answered (r .verdict) (r .job)
+abbrev pub inC : Outcome → AnswerInC
+inC o = answered (o .answer) (o .table)

@@ -1,11 +1,11 @@
 // Reading a job for a caller in C: the tests hold it to a second reader.
 ghost use mathlib.Core.Path.{_≡_};
-ghost use Rattle.parse.specs.Reading.{reading};
-ghost use Rattle.parse_ffi.specs.Foreign.{answerOf, told};
+ghost use Rattle.parse.specs.Reading.{readJob};
+ghost use Rattle.parse_ffi.specs.Foreign.{flat as flatOf, inC};
 use job::Job;
 use parse::Verdict;
 
-// A reading as C lays it out: acceptance, or the number and place of a refusal, and the table.
+// A reading as C lays it out: acceptance, with number and place 0, or the number and place of a refusal; and the table.
 #[repr(C)]
 pub struct Answer {
     pub accepted: bool,
@@ -28,7 +28,7 @@ pub struct Answer {
 }
 
 fn flat(accepted: bool, number: u8, place: usize, j: Job) -> Answer
-    ensures { λ r. ⌜ r ≡ answerOf accepted number place j ⌝ }
+    ensures { λ r. ⌜ r ≡ flatOf accepted number place j ⌝ }
 {
     let p = j.program;
     let process = p.process;
@@ -64,7 +64,7 @@ fn flat(accepted: bool, number: u8, place: usize, j: Job) -> Answer
 
 #[no_mangle]
 pub extern "C" fn read_job(text: &[u8]) -> Answer
-    ensures { λ r. ⌜ r ≡ told (reading (now (text .entry))) ⌝ }
+    ensures { λ r. ⌜ r ≡ inC (readJob (now (text .entry))) ⌝ }
 {
     let r = parse::read(text);
     let v = r.verdict;

@@ -20,11 +20,13 @@ same-length c = search needs
 
 returns : tie.Need-returns
 returns c =
-    let a = c .before .before .before .before .before .before .before .before .args in
-    let j = c .before .before .before .before .before .job-of in
-    let call = c .before .before .before .read-off in
+    let at-call = c .before .before .before in
+    let at-job-of = at-call .before .before in
+    let a = at-job-of .before .before .before .args in
+    let j = at-job-of .job-of in
+    let call = at-call .read-off in
     of-the-table (λ (x : Job). readingOff x (a .values .now) (a .run .now)) (j .result) _ (j .ensures)
-    _ (call .result) (c .answer-of .ensures) (call .last .1 .1 .0) (call .ensures)
+    _ _ (c .answer-of .ensures) (call .last .1 .1 .0) (call .ensures)
 
 pub read-off-spec : {M : Type 1} → statement M
 read-off-spec =

@@ -1,6 +1,7 @@
 -- `read_job` lays the reading out flat, by its verdict.
-use Rattle.parse_ffi.specs.Foreign.{answered, told}
 use Rattle.parse.specs.declared.Verdict.{Verdict}
+use Rattle.parse.specs.Answers.{answerOf}
+use Rattle.parse_ffi.specs.Foreign.{answered}
 use mathlib.Core.Path.{_∙_, ap, sym}
 use borrow.Author.Needs.{needs}
 use Rattle.parse_ffi.proofs.read_job.Statement.{statement}
@@ -24,13 +25,17 @@ flat-requires-2 c κs = search needs
 returns : tie.Need-returns
 returns c =
     let read′ = c .before .before .before .read in
-    c .flat .ensures ∙ ap (λ (v : Verdict). answered v (read′ .result .job)) (sym (c .before .enum-told .given .1)) ∙ ap told (read′ .ensures)
+    c .flat .ensures
+    ∙ ap (λ (v : Verdict). answered (answerOf v) (read′ .result .job)) (sym (c .before .enum-told .given .1))
+    ∙ λ i. answered (read′ .ensures .0 i) (read′ .ensures .1 i)
 
 returns-2 : tie.Need-returns-2
 returns-2 c =
     let read′ = c .before .before .before .before .read in
     let v′ = c .before .before .v in
-    c .flat2 .ensures ∙ ap (λ (v : Verdict). answered v (read′ .result .job)) (sym (v′ .given .1)) ∙ ap told (read′ .ensures)
+    c .flat2 .ensures
+    ∙ ap (λ (v : Verdict). answered (answerOf v) (read′ .result .job)) (sym (v′ .given .1))
+    ∙ λ i. answered (read′ .ensures .0 i) (read′ .ensures .1 i)
 
 pub read-job-spec : {M : Type 1} → statement M
 read-job-spec =
