@@ -1,6 +1,6 @@
 -- Where no number is listed twice, a number that is listed has one sign. So a clause has a listed literal exactly when the values that are
 -- listed make it true: `all-listed`.
-use mathlib.Core.Path.{_≡_, refl, sym, ap}
+use mathlib.Core.Path.{_≡_, refl, sym, ap, _∙_}
 use mathlib.Core.Bool.{Bool, true, false, not, true≢false}
 use mathlib.Core.Logic.{_⊎_, inl, inr}
 use mathlib.Core.List.{List, [], _∷_, map}
@@ -36,41 +36,6 @@ module _ (x : ℕ) where
   abbrev pub AnySeen : List Literal → Type 0
   AnySeen ls = Seen x ls 0 0 false false ⊎ (Seen x ls 1 1 true false ⊎ Seen x ls 1 2 false true)
 
-  unseen : Seen x [] 0 0 false false
-  unfolding times says has
-  unseen = record { often = refl; said = refl; plain = refl; minus = refl }
-
-  pass-by : {count mark : ℕ} {on off : Bool} (l : Literal) (ls : List Literal) → (x ≡ place l → ⊥) → Seen x ls count mark on off
-      → Seen x (l ∷ ls) count mark on off
-  unfolding times says has
-  pass-by (On y) ls ne s = record {
-    often = rw (ne-eqb x y ne) (s .often);
-    said = rw (ne-eqb y x (λ e. ne (sym e))) (s .said);
-    plain = rw (ne-eqb x y ne) (s .plain);
-    minus = s .minus;
-  }
-  pass-by (Off y) ls ne s = record {
-    often = rw (ne-eqb x y ne) (s .often);
-    said = rw (ne-eqb y x (λ e. ne (sym e))) (s .said);
-    plain = s .plain;
-    minus = rw (ne-eqb x y ne) (s .minus);
-  }
-
-  see : (l : Literal) (ls : List Literal) → x ≡ place l → Seen x ls 0 0 false false → AnySeen (l ∷ ls)
-  unfolding times says has
-  see (On y) ls e s = inr (inl (record {
-    often = rw (eq-eqb x y e) (ap suc (s .often));
-    said = rw (eq-eqb y x (sym e));
-    plain = rw (eq-eqb x y e);
-    minus = s .minus;
-  }))
-  see (Off y) ls e s = inr (inr (record {
-    often = rw (eq-eqb x y e) (ap suc (s .often));
-    said = rw (eq-eqb y x (sym e));
-    plain = s .plain;
-    minus = rw (eq-eqb x y e);
-  }))
-
   pub times-other : (l : Literal) (ls : List Literal) → (x ≡ place l → ⊥) → times x (l ∷ ls) ≡ times x ls
   unfolding times
   times-other l ls ne = rw (ne-eqb x (place l) ne)
@@ -78,6 +43,41 @@ module _ (x : ℕ) where
   pub times-more : (l : Literal) (ls : List Literal) → x ≡ place l → times x (l ∷ ls) ≡ suc (times x ls)
   unfolding times
   times-more l ls e = rw (eq-eqb x (place l) e)
+
+  unseen : Seen x [] 0 0 false false
+  unfolding times says has
+  unseen = record { often = refl; said = refl; plain = refl; minus = refl }
+
+  pass-by : {count mark : ℕ} {on off : Bool} (l : Literal) (ls : List Literal) → (x ≡ place l → ⊥) → Seen x ls count mark on off
+      → Seen x (l ∷ ls) count mark on off
+  unfolding says has
+  pass-by (On y) ls ne s = record {
+    often = times-other (On y) ls ne ∙ s .often;
+    said = rw (ne-eqb y x (λ e. ne (sym e))) (s .said);
+    plain = rw (ne-eqb x y ne) (s .plain);
+    minus = s .minus;
+  }
+  pass-by (Off y) ls ne s = record {
+    often = times-other (Off y) ls ne ∙ s .often;
+    said = rw (ne-eqb y x (λ e. ne (sym e))) (s .said);
+    plain = s .plain;
+    minus = rw (ne-eqb x y ne) (s .minus);
+  }
+
+  see : (l : Literal) (ls : List Literal) → x ≡ place l → Seen x ls 0 0 false false → AnySeen (l ∷ ls)
+  unfolding says has
+  see (On y) ls e s = inr (inl (record {
+    often = times-more (On y) ls e ∙ ap suc (s .often);
+    said = rw (eq-eqb y x (sym e));
+    plain = rw (eq-eqb x y e);
+    minus = s .minus;
+  }))
+  see (Off y) ls e s = inr (inr (record {
+    often = times-more (Off y) ls e ∙ ap suc (s .often);
+    said = rw (eq-eqb y x (sym e));
+    plain = s .plain;
+    minus = rw (eq-eqb x y e);
+  }))
 
   pub seen : (ls : List Literal) → times x ls ≤ 1 → AnySeen ls
   seen [] h = inl unseen

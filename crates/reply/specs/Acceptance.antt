@@ -29,7 +29,7 @@ use Rattle.reply.specs.Check.{accepted, maxReply, holding, checked}
 abbrev pub unchecked : Store (List Literal)
 unchecked = record { has = λ ls x. false; put = λ ls on x. valued on x ∷ ls }
 
--- the reply has 01's form and lists these literals, the last first
+-- the reply has 01's form and lists these literals, the last first; 'at most 7 digits' are at most maxNumber
 abbrev pub Lists : List ℕ → List Literal → Type 0
 Lists reply listed = heardIn unchecked maxNumber [] reply ≡ whole listed
 
