@@ -39,8 +39,8 @@ abbrev row : Rows → ℕ → List ℕ
 row rows i = getD rows i []
 
 -- with a bound, m steps, n variables, no lemma, and these bytes as names
-unfoldable pub table : ℕ → ℕ → ℕ → List ℕ → Rows → Job
-table bound m n bytes rows = record {
+unfoldable pub tableOf : ℕ → ℕ → ℕ → List ℕ → Rows → Job
+tableOf bound m n bytes rows = record {
   program = record {
     bound = bound;
     steps = m;
@@ -74,32 +74,34 @@ five =
 abbrev most : Rows
 most = (1 ∷ replicate (maxSteps - 1) 2) ∷ replicate maxSteps 1 ∷ (1 ∷ replicate (maxSteps - 1) 2) ∷ []
 
--- the number of step c in row i is x
+-- as rows are, but for x in row i at step c
 abbrev set : ℕ → ℕ → ℕ → Rows → Rows
 set i c x rows = write rows i (write (row rows i) (c - 1) (x ∷ []) ∷ [])
 
+-- the table of five, but for that number
 abbrev with : ℕ → ℕ → ℕ → Job
-with i c x = table 1 5 2 [] (set i c x five)
+with i c x = tableOf 1 5 2 [] (set i c x five)
 
 -- ---- which are fit, and which are not
 
--- 'Names and text length are not looked at.'
 unfoldable pub fitTables : List Job
 fitTables =
-    table 1 5 2 [] five
-    ∷ table 1 5 2 (255 ∷ 255 ∷ []) five
-    ∷ table maxBound 5 2 [] five
-    ∷ table 1 maxSteps 0 [] most
+    tableOf 1 5 2 [] five
     ∷ oneBit 1 1 (1 ∷ []) (negsuc 2 ∷ [])
+    -- 'Names and text length are not looked at.'
+    ∷ tableOf 1 5 2 (255 ∷ 255 ∷ []) five
+    -- at the limits; all 100 lemmas are too many to evaluate, and tests have them
+    ∷ tableOf maxBound 5 2 [] five
+    ∷ tableOf 1 maxSteps 0 [] most
     ∷ oneBit 1 1 (maxNames ∷ []) (replicate maxNames (pos 3))
     ∷ []
 
 unfoldable pub unfitTables : List Job
 unfitTables =
     -- 'bound and counts are in the limits'
-    table 0 5 2 [] five
-    ∷ table (maxBound + 1) 5 2 [] five
-    ∷ table 1 (maxSteps + 1) 0 [] most
+    tableOf 0 5 2 [] five
+    ∷ tableOf (maxBound + 1) 5 2 [] five
+    ∷ tableOf 1 (maxSteps + 1) 0 [] most
     ∷ oneBit 1 (maxLemmas + 1) (replicate maxLemmas 1) (each maxLemmas λ k. pos 1 ∷ replicate (maxNames - 1) (pos 0))
     -- 'processes, kinds and v in range'
     ∷ with process 5 0
@@ -116,11 +118,11 @@ unfitTables =
     ∷ with other 2 6
     ∷ with other 2 4
     -- 'variables numbered as first mentioned': b before a, one left out, none of an if; a variable that no step mentions, and one too few
-    ∷ table 1 5 2 [] (set variable 2 2 (set variable 3 1 five))
-    ∷ table 1 5 3 [] (set variable 3 3 five)
-    ∷ table 1 5 1 [] (set variable 2 0 (set variable 3 1 five))
-    ∷ table 1 5 3 [] five
-    ∷ table 1 5 1 [] five
+    ∷ tableOf 1 5 2 [] (set variable 2 2 (set variable 3 1 five))
+    ∷ tableOf 1 5 3 [] (set variable 3 3 five)
+    ∷ tableOf 1 5 1 [] (set variable 2 0 (set variable 3 1 five))
+    ∷ tableOf 1 5 3 [] five
+    ∷ tableOf 1 5 1 [] five
     -- 'each lemma 1 to 64 items of this job': no name, one too many, item 0, item 4 of 3, and its negation
     ∷ oneBit 1 1 (0 ∷ []) []
     ∷ oneBit 1 1 ((maxNames + 1) ∷ []) (replicate maxNames (pos 3))
@@ -129,8 +131,8 @@ unfitTables =
     ∷ oneBit 1 1 (1 ∷ []) (negsuc 3 ∷ [])
     -- 'none of 55, 98, 99 applies': B0 critical as A0 is, all steps A's, all steps B's
     ∷ with kind 4 2
-    ∷ table 1 5 2 [] (set process 4 1 (set process 5 1 five))
-    ∷ table 1 5 2 [] (set process 1 2 (set process 2 2 (set process 3 2 five)))
+    ∷ tableOf 1 5 2 [] (set process 4 1 (set process 5 1 five))
+    ∷ tableOf 1 5 2 [] (set process 1 2 (set process 2 2 (set process 3 2 five)))
     -- 'and unused places are 0': M of an assignment, V and v of a maybe
     ∷ with other 3 1
     ∷ with variable 4 1
