@@ -1,4 +1,4 @@
--- An accepted text gives a fit table, and so demand 3 holds of it: `accepted-fit` and `accepted-accurate`, at the end.
+-- An accepted text gives a fit table: `accepted-fit`, at the end. So what is claimed of fit tables holds of it (crate claims).
 use mathlib.Core.Path.{_≡_, subst}
 use mathlib.Core.Bool.{true, false}
 use mathlib.Core.List.{List, [], _∷_}
@@ -10,8 +10,6 @@ use lib.ListN.{drop, length}
 use Rattle.lists.proofs.TestLaws.{pass}
 use Rattle.job.specs.Limits.{maxLemmas, maxNames}
 use Rattle.job.specs.Fitness.{firstOf, bothCritical, programFits, fit}
-use Rattle.job.specs.Accuracy.{Accurate}
-use Rattle.job.proofs.Accuracy.{accuracy}
 use Rattle.job.specs.declared.Job.{Job}
 use Rattle.job.specs.declared.Program.{Program}
 use Rattle.scan.specs.Lines.{Row, lines}
@@ -136,7 +134,3 @@ accepted-fit text e = ready-fits (reading text .job) (holds-of Ready (reading te
 -- the table has a place for each name of each lemma
 pub accepted-items : (text : List ℕ) → reading text .verdict ≡ Accepted → length (reading text .job .items) ≡ maxLemmas * maxNames
 accepted-items text e = holds-of Ready (reading text) (reading-ready text) e .lemmas .items-size
-
--- demand 3 of texts: its clauses and its runs, of every text that is accepted
-pub accepted-accurate : (text : List ℕ) → reading text .verdict ≡ Accepted → Accurate (reading text .job)
-accepted-accurate text e = accuracy (reading text .job) (accepted-fit text e)
