@@ -1,4 +1,4 @@
--- The laws of a reply, by what the code does with it.
+-- The laws of a reply, by what the code does with it; then those of Acceptance and PlainReply (start at Accepted).
 pub mod LineLaws
 pub mod HeardLaws
 pub mod BufferLaws

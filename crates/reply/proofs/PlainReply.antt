@@ -62,7 +62,7 @@ number-length false x l = omega (arith, length-few 6 (suc x) (omega arith))
 
 -- ---- what the numbers say
 
--- the literals before ls that values from place x on are
+-- the literals of the values from place x on, the last first, in front of ls
 abbrev literalsFrom : ℕ → List ℕ → List Literal → List Literal
 literalsFrom x [] ls = ls
 literalsFrom x (v ∷ vs) ls = literalsFrom (suc x) vs (valued (eqb v 1) x ∷ ls)
