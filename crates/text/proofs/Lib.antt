@@ -6,4 +6,7 @@ pub mod TextsLaws
 pub mod WholeLaws
 pub mod GroupLaws
 pub mod CommentLaws
+pub mod CommentLength
+pub mod LengthLaws
+pub mod AllTexts
 pub mod Examples

@@ -15,3 +15,8 @@ told (negsuc x) = minus ∷ numeral (suc x) ++ (space ∷ [])
 -- the text of number i
 abbrev pub numberText : List ℤ → ℕ → List ℕ
 numberText xs i = told (getD xs i (pos 0))
+
+-- numbers one behind the other
+unfoldable pub numbersText : List ℤ → List ℕ
+numbersText [] = []
+numbersText (x ∷ xs) = told x ++ numbersText xs

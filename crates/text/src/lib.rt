@@ -6,6 +6,7 @@ mod run; // run.rt: the lines of a run
 mod comments; // comments.rt: the comments of a job text
 
 ghost use mathlib.Core.Path.{_≡_};
+ghost use Prim.Native.Nat.{_*_, _≤_};
 ghost use lib.ListN.{length};
 ghost use Rattle.text.specs.Texts.{texted, withTexts};
 ghost use Rattle.text.specs.Dimacs.{numberText};
@@ -35,9 +36,10 @@ pub enum Printed {
     Short,
 }
 
-// The text of clauses: whole numbers while the next one fits.
+// The text of clauses: whole numbers while the next one fits. Twelve bytes hold any number, so that a buffer of as many for each holds all.
 pub fn numbers_text(numbers: &[i32], out: &mut [u8]) -> Texted
     ensures { λ r. ⌜ (r ≡ texted (length (now (numbers .entry))) (numberText (now (numbers .entry))) (now (out .entry))) × (now (out .exit) ≡ withTexts (length (now (numbers .entry))) (numberText (now (numbers .entry))) (now (out .entry))) ⌝ }
+    ensures { λ r. ⌜ (length (now (numbers .entry)) * 12 ≤ length (now (out .entry)) → r .count ≡ length (now (numbers .entry))) ⌝ }
 {
     let mut count: usize = 0;
     let mut bytes: usize = 0;

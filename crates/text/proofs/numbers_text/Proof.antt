@@ -1,6 +1,6 @@
 -- The texts of the first numbers stand in the buffer; the next one goes behind them, or does not fit.
 use mathlib.Core.Path.{_≡_, ap, _∙_}
-use Prim.Native.Nat.{_-_, _≤_}
+use Prim.Native.Nat.{_*_, _-_, _≤_}
 use native.Mathlib.Omega.{arith}
 use lib.IntN.{ℤ, pos}
 use lib.ListN.{length, getD}
@@ -9,6 +9,7 @@ use mir.Val.{toZ, ofZ}
 use Rattle.lists.specs.Writing.{write}
 use Rattle.text.specs.Dimacs.{told, numberText}
 use Rattle.text.proofs.SignLaws.{back}
+use Rattle.text.proofs.LengthLaws.{told-length}
 use Rattle.text.proofs.TextsLaws.{Begun, begun-none, begun-length, begun-next, begun-full, begun-all}
 use borrow.Author.Needs.{needs}
 use Rattle.text.proofs.numbers_text.Statement.{statement}
@@ -16,7 +17,7 @@ use Rattle.text.proofs.numbers_text.Tie as tie
 
 abbrev Inv-loop : tie.InvT-loop
 Inv-loop numbers out₀ count₀ bytes₀ out count bytes =
-    (count ≤ length numbers) × Begun (numberText numbers) out₀ count bytes out × (length out ≡ length out₀)
+    (count ≤ length numbers) × Begun (numberText numbers) out₀ count bytes out × (length out ≡ length out₀) × (bytes ≤ count * 12)
 
 abbrev μ-loop : tie.MeasureT-loop
 μ-loop numbers out₀ count₀ bytes₀ out count bytes = length numbers - count
@@ -30,8 +31,15 @@ long : (c : tie.After-told-length Inv-loop μ-loop)
     → c .told-length .result ≡ length (numberText (c .before .before .before .before .before .args .numbers .now) (c .before .before .before .loop .count))
 long c = c .told-length .ensures ∙ ap (λ (z : ℤ). length (told z)) (read (c .before))
 
+-- it takes at most twelve bytes
+short : (c : tie.After-told-length Inv-loop μ-loop) → c .told-length .result ≤ 12
+short c =
+    let at-loop = c .before .before .before in
+    let x = getD (at-loop .before .before .args .numbers .now) (at-loop .loop .count) (pos 0) in
+    omega (arith, long c, told-length x (record { sfits = c .before .x .given }))
+
 loop-holds : tie.Need-loop-holds Inv-loop μ-loop
-loop-holds c = (omega arith, begun-none (numberText (c .before .args .numbers .now)) (c .before .args .out .now), search needs)
+loop-holds c = (omega arith, begun-none (numberText (c .before .args .numbers .now)) (c .before .args .out .now), search needs, omega arith)
 
 mul-x : tie.Need-mul-x Inv-loop μ-loop
 mul-x c = search needs
@@ -51,9 +59,11 @@ same-length c = search needs
 returns : tie.Need-returns Inv-loop μ-loop
 returns c = let a = c .before .before .before .before .before .before .args in
     let o = c .before .before .before .before .loop in
-    let b = o .inv .1 in
-    begun-full (numberText (a .numbers .now)) (a .out .now) (length (a .numbers .now)) (o .count) (o .bytes) (o .out) b (c .before .before .before .loop-test .taken)
-    (omega (arith, long (c .before), b .room))
+    let b = o .inv .1 in (
+      begun-full (numberText (a .numbers .now)) (a .out .now) (length (a .numbers .now)) (o .count) (o .bytes) (o .out) b
+          (c .before .before .before .loop-test .taken) (omega (arith, long (c .before), b .room)),
+      λ h. absurd (omega (arith, short (c .before))),
+    )
 
 add-put-told : tie.Need-add-put-told Inv-loop μ-loop
 add-put-told c = let b = c .before .before .before .before .before .loop .inv .1 in omega (arith, b .room)
@@ -78,7 +88,7 @@ loop-again c = let a = c .before .before .before .before .before .before .before
     let n = long (c .before .before .before .before .before) in
     let e = c .before .before .put-told .ensures ∙ ap (λ (z : ℤ). write (o .out) (o .bytes) (told z)) (read (c .before .before .before .before .before .before)) in
     let next = begun-next (numberText (a .numbers .now)) (a .out .now) (o .count) (o .bytes) (o .out) _ b (omega (arith, b .room)) e in
-    (omega arith, rw n next, begun-length (numberText (a .numbers .now)) (a .out .now) next)
+    (omega arith, rw n next, begun-length (numberText (a .numbers .now)) (a .out .now) next, omega (arith, short (c .before .before .before .before .before)))
 
 same-length-2 : tie.Need-same-length-2 Inv-loop μ-loop
 same-length-2 c = search needs
@@ -86,7 +96,7 @@ same-length-2 c = search needs
 returns-2 : tie.Need-returns-2 Inv-loop μ-loop
 returns-2 c = let a = c .before .before .before .args in
     let o = c .before .loop in
-    begun-all (numberText (a .numbers .now)) (a .out .now) (length (a .numbers .now)) (o .count) (o .bytes) (o .out) (o .inv .1) (omega arith)
+    (begun-all (numberText (a .numbers .now)) (a .out .now) (length (a .numbers .now)) (o .count) (o .bytes) (o .out) (o .inv .1) (omega arith), λ h. omega arith)
 
 pub numbers-text-spec : {M : Type 1} → statement M
 numbers-text-spec =

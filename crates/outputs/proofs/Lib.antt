@@ -1,0 +1,7 @@
+-- The laws of what is printed.
+pub mod PrintingLaws
+pub mod ReadLaws
+pub mod RunLength
+pub mod ShowLaws
+pub mod ShortClauses
+pub mod PieceLaws

@@ -1,0 +1,115 @@
+-- A piece that begins at a clause of a fit job is never empty; and the text of a piece is that of its clauses.
+use mathlib.Core.Path.{_≡_, refl, sym, ap, _∙_}
+use mathlib.Core.Bool.{true, cond}
+use mathlib.Core.List.{List, [], _∷_, _++_, map, append-assoc}
+use Prim.Native.Nat.{ℕ, zero, suc, _+_, _*_, _-_, _≤_, _<_}
+use native.Mathlib.Omega.{arith}
+use borrow.Author.Tests.{lt-ltb, ne-eqb}
+use lib.Dec.{eqb}
+use lib.IntN.{ℤ, pos}
+use lib.ListN.{length, take, drop, length-append, length-drop}
+use lib.Seq.{take-at}
+use Rattle.lists.specs.Rows.{each}
+use Rattle.lists.specs.Writing.{write}
+use Rattle.lists.proofs.WritingLaws.{write-none}
+use Rattle.job.specs.declared.Job.{Job}
+use Rattle.job.specs.declared.Refusal.{Refusal}
+use Rattle.job.specs.Literals.{Clause, signed}
+use Rattle.job.specs.Clauses.{clauses}
+use Rattle.job.specs.Fitness.{fit}
+use Rattle.cnf.specs.declared.Written.{Written}
+use Rattle.cnf.specs.declared.Written.the-variants.{Piece, Refused}
+use Rattle.cnf.specs.Answers.{Counts, answerOf}
+use Rattle.cnf.specs.Piece.{leastRoom, fitting, flat, piece, refusal, answer, buffer, written, bufferAfter}
+use Rattle.text.specs.declared.Texted.{Texted}
+use Rattle.text.specs.Texts.{texted, withTexts}
+use Rattle.text.specs.Dimacs.{numberText, numbersText}
+use Rattle.text.proofs.AllTexts.{texts-counted, numbers-are, numbers-append}
+use Rattle.outputs.specs.Dimacs.{clauseText, nextPiece, PieceText}
+use Rattle.outputs.proofs.ShortClauses.{Short, clauses-short}
+
+drop-short : (i : ℕ) (cs : List Clause) → Short cs → Short (drop i cs)
+drop-short zero cs h = h
+drop-short (suc i) [] h = tt
+drop-short (suc i) (c ∷ cs) h = drop-short i cs (h .1)
+
+some-fits : (room : ℕ) (cs : List Clause) → leastRoom ≤ room → 0 < length cs → Short cs → 0 < length (fitting room cs)
+unfolding fitting
+some-fits room [] h l s = absurd (omega arith)
+some-fits room (c ∷ cs) h l s = rw (lt-ltb (length c) room (omega (arith, s .0))) (omega arith)
+
+pub piece-some : (J : Job) → fit J ≡ true → (c room : ℕ) → 1 ≤ c → c ≤ length (clauses J) → leastRoom ≤ room → 0 < length (piece J c room)
+piece-some J h c room low high wide =
+    some-fits room (drop (c - 1) (clauses J)) wide (omega (arith, length-drop (c - 1) (clauses J))) (drop-short (c - 1) (clauses J) (clauses-short J h))
+
+-- ---- the text of a piece
+
+-- two lists of clauses, one behind the other
+flat-append : (a b : List Clause) → flat (a ++ b) ≡ flat a ++ flat b
+unfolding flat
+flat-append [] b = refl
+flat-append (c ∷ cs) b =
+    let line : List ℤ = map signed c ++ (pos 0 ∷ []) in
+    ap (λ l. line ++ l) (flat-append cs b) ∙ sym (append-assoc line (flat cs) (flat b))
+
+-- pieces joined have the texts joined
+pub clause-text-append : (a b : List Clause) → clauseText (a ++ b) ≡ clauseText a ++ clauseText b
+clause-text-append a b = ap numbersText (flat-append a b) ∙ numbers-append (flat a) (flat b)
+
+-- no clause leaves the buffer as it is
+pub no-text : (cs : List Clause) (out : List ℕ) → cs ≡ [] → PieceText cs out (record { clauses = 0; length = 0 }) out
+unfolding flat numbersText
+no-text cs out e = rw e (record { clauses = refl; bytes = refl; holds = write-none out 0 })
+
+module _ (J : Job) (c : ℕ) (old new : List ℤ) (w : Written) (given : (answerOf w ≡ written J c old) × (new ≡ bufferAfter J c old)) where
+  abbrev cs : List Clause
+  cs = nextPiece J c (length old)
+
+  pub piece-refused : (f : Refusal) → w ≡ Refused f → nextPiece J c (length old) ≡ []
+  unfolding written nextPiece
+  piece-refused f e = go (refusal J c (length old)) (sym (ap answerOf e) ∙ given .0)
+    where
+      go : (x : ℕ) → answerOf (Refused f) ≡ answer x (piece J c (length old)) → cond (eqb x 0) (piece J c (length old)) [] ≡ []
+      go zero h = let z : _≡_ {A = ℕ} 0 1 = cc in absurd (omega arith)
+      go (suc x) h = rw (ne-eqb (suc x) 0 (λ e. omega arith))
+
+  pub piece-given : (k n : ℕ) → w ≡ Piece k n
+      → (k ≡ length (nextPiece J c (length old))) × (n ≡ length (flat (nextPiece J c (length old)))) × (new ≡ write old 0 (flat (nextPiece J c (length old))))
+  unfolding written bufferAfter nextPiece
+  piece-given k n e = go (refusal J c (length old)) (sym (ap answerOf e) ∙ given .0) (given .1)
+    where
+      go : (x : ℕ) → answerOf (Piece k n) ≡ answer x (piece J c (length old)) → new ≡ buffer x (piece J c (length old)) old
+          → let cs = cond (eqb x 0) (piece J c (length old)) [] in (k ≡ length cs) × (n ≡ length (flat cs)) × (new ≡ write old 0 (flat cs))
+      go zero h b =
+          let cs = piece J c (length old) in
+          let counts : Counts = record { clauses = k; numbers = n } in
+          let i : counts ≡ record { clauses = length cs; numbers = length (flat cs) } = cc in
+          (ap (λ (i : Counts). i .clauses) i, ap (λ (i : Counts). i .numbers) i, b)
+      go (suc x) h b = let z : _≡_ {A = ℕ} 0 1 = cc in absurd (omega arith)
+
+  -- the numbers written are the front of the buffer, whatever follows
+  module _ (k n : ℕ) (e : w ≡ Piece k n) (same : length new ≡ length old) where
+    pub piece-within : n ≤ length old
+    piece-within =
+        let (_, i, h) = piece-given k n e in
+        let f = flat cs in
+        omega (arith, ap length h ∙ length-append f (drop (0 + length f) old), length-drop (0 + length f) old)
+
+    pub piece-front : (rest : List ℤ) → take n (new ++ rest) ≡ flat (nextPiece J c (length old))
+    piece-front rest =
+        let (_, i, h) = piece-given k n e in
+        let f = flat cs in
+        ap (λ l. take n (l ++ rest)) h ∙ rw append-assoc (take-at f (drop (0 + length f) old ++ rest) n (sym i))
+
+    -- and their text is that of the clauses
+    pub piece-text : (rest : List ℤ) (out out′ : List ℕ) (t : Texted)
+        → let xs = take n (new ++ rest) in
+        ((t ≡ texted (length xs) (numberText xs) out) × (out′ ≡ withTexts (length xs) (numberText xs) out)) × (length xs * 12 ≤ length out → t .count ≡ length xs)
+        → length old * 12 ≤ length out → PieceText (nextPiece J c (length old)) out (record { clauses = k; length = t .bytes }) out′
+    piece-text rest out out′ t (said, counts) room =
+        let (j, i, h) = piece-given k n e in
+        let xs : List ℤ = take n (new ++ rest) in
+        let front : xs ≡ flat cs = piece-front rest in
+        let all = texts-counted (length xs) (numberText xs) out out′ t said (counts (omega (arith, ap length front, piece-within))) in
+        let same : each (length xs) (numberText xs) ≡ clauseText cs = numbers-are xs ∙ ap numbersText front in
+        record { clauses = j; bytes = all .0 ∙ ap length same; holds = all .1 ∙ ap (write out 0) same }
