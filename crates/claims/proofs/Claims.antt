@@ -12,6 +12,7 @@ use Rattle.form.proofs.OneForm.{one-form, equal-exactly}
 use Rattle.claims.specs.Claims.{Claims}
 use Rattle.claims.proofs.Calls.{accurate-calls}
 use Rattle.claims.proofs.Replies.{accurate-replies}
+use Rattle.claims.proofs.Printed.{printed-whole}
 
 pub claims : (text : List ℕ) → IsJob text → Claims text
 claims text is =
@@ -20,6 +21,7 @@ claims text is =
     record {
       all-clauses = all-clauses J fits;
       in-range = in-range J fits;
+      printed = printed-whole text is;
       accepted-exactly = λ reply work buffer. accepted-exactly J reply work buffer;
       plain-replies = plain-replies J fits;
       accurate = accuracy J fits;

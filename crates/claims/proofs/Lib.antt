@@ -2,4 +2,5 @@
 pub mod RunBytes
 pub mod Calls
 pub mod Replies
+pub mod Printed
 pub mod Claims

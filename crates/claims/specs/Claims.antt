@@ -10,6 +10,7 @@ use Rattle.reply.specs.PlainReply.{PlainReplies}
 use Rattle.form.specs.OneForm.{IsJob, jobOf, OneForm, EqualExactly}
 use Rattle.claims.specs.Calls.{AccurateCalls}
 use Rattle.claims.specs.Replies.{AccurateReplies}
+use Rattle.claims.specs.Printed.{PrintedWhole}
 
 pub record Claims (text : List ℕ) : Type 0 where
   -- ---- demand 2
@@ -18,11 +19,12 @@ pub record Claims (text : List ℕ) : Type 0 where
   pub all-clauses : AllClauses (jobOf text)
   -- 'header (variables, clauses)': every literal is a number from 1 to the header's N
   pub in-range : InRange (jobOf text)
+  -- 'comments after `c `, header (variables, clauses), clauses': the first program prints all of them
+  pub printed : PrintedWhole text
   -- 'A solver's reply in 01's form and size is accepted exactly when it gives each variable one value and every clause is true.'
   pub accepted-exactly : (reply work buffer : List ℕ) → AcceptedExactly (jobOf text) reply work buffer
   -- for all values there is such a reply
   pub plain-replies : PlainReplies (jobOf text)
-
   -- ---- demand 3
 
   -- 'its clauses can be satisfied exactly when there is a run of r+1 states, all different ..': of the definitions
@@ -31,7 +33,6 @@ pub record Claims (text : List ℕ) : Type 0 where
   pub accurate-calls : AccurateCalls (jobOf text)
   -- of these and the check of a reply
   pub accurate-replies : AccurateReplies (jobOf text)
-
   -- ---- document 02, S-1
 
   -- 'Filing twice changes nothing; runs are the same; the text never grows.'

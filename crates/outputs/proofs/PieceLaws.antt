@@ -1,12 +1,12 @@
--- A piece that begins at a clause of a fit job is never empty; and the text of a piece is that of its clauses.
+-- The text of a piece is that of its clauses, and pieces joined have the texts joined.
 use mathlib.Core.Path.{_≡_, refl, sym, ap, _∙_}
-use mathlib.Core.Bool.{true, cond}
-use mathlib.Core.List.{List, [], _∷_, _++_, map, append-assoc}
-use Prim.Native.Nat.{ℕ, zero, suc, _+_, _*_, _-_, _≤_, _<_}
+use mathlib.Core.Bool.{cond}
+use mathlib.Core.List.{List, [], _++_, append-assoc}
+use Prim.Native.Nat.{ℕ, zero, suc, _+_, _*_, _-_, _≤_}
 use native.Mathlib.Omega.{arith}
-use borrow.Author.Tests.{lt-ltb, ne-eqb}
+use borrow.Author.Tests.{ne-eqb}
 use lib.Dec.{eqb}
-use lib.IntN.{ℤ, pos}
+use lib.IntN.{ℤ}
 use lib.ListN.{length, take, drop, length-append, length-drop}
 use lib.Seq.{take-at}
 use Rattle.lists.specs.Rows.{each}
@@ -14,43 +14,20 @@ use Rattle.lists.specs.Writing.{write}
 use Rattle.lists.proofs.WritingLaws.{write-none}
 use Rattle.job.specs.declared.Job.{Job}
 use Rattle.job.specs.declared.Refusal.{Refusal}
-use Rattle.job.specs.Literals.{Clause, signed}
+use Rattle.job.specs.Literals.{Clause}
 use Rattle.job.specs.Clauses.{clauses}
-use Rattle.job.specs.Fitness.{fit}
 use Rattle.cnf.specs.declared.Written.{Written}
 use Rattle.cnf.specs.declared.Written.the-variants.{Piece, Refused}
 use Rattle.cnf.specs.Answers.{Counts, answerOf}
-use Rattle.cnf.specs.Piece.{leastRoom, fitting, flat, piece, refusal, answer, buffer, written, bufferAfter}
+use Rattle.cnf.specs.Piece.{flat, piece, refusal, answer, buffer, written, bufferAfter}
+use Rattle.pieces.proofs.Joined.{flat-append}
 use Rattle.text.specs.declared.Texted.{Texted}
 use Rattle.text.specs.Texts.{texted, withTexts}
 use Rattle.text.specs.Dimacs.{numberText, numbersText}
 use Rattle.text.proofs.AllTexts.{texts-counted, numbers-are, numbers-append}
 use Rattle.outputs.specs.Dimacs.{clauseText, nextPiece, PieceText}
-use Rattle.outputs.proofs.ShortClauses.{Short, clauses-short}
-
-drop-short : (i : ℕ) (cs : List Clause) → Short cs → Short (drop i cs)
-drop-short zero cs h = h
-drop-short (suc i) [] h = tt
-drop-short (suc i) (c ∷ cs) h = drop-short i cs (h .1)
-
-some-fits : (room : ℕ) (cs : List Clause) → leastRoom ≤ room → 0 < length cs → Short cs → 0 < length (fitting room cs)
-unfolding fitting
-some-fits room [] h l s = absurd (omega arith)
-some-fits room (c ∷ cs) h l s = rw (lt-ltb (length c) room (omega (arith, s .0))) (omega arith)
-
-pub piece-some : (J : Job) → fit J ≡ true → (c room : ℕ) → 1 ≤ c → c ≤ length (clauses J) → leastRoom ≤ room → 0 < length (piece J c room)
-piece-some J h c room low high wide =
-    some-fits room (drop (c - 1) (clauses J)) wide (omega (arith, length-drop (c - 1) (clauses J))) (drop-short (c - 1) (clauses J) (clauses-short J h))
 
 -- ---- the text of a piece
-
--- two lists of clauses, one behind the other
-flat-append : (a b : List Clause) → flat (a ++ b) ≡ flat a ++ flat b
-unfolding flat
-flat-append [] b = refl
-flat-append (c ∷ cs) b =
-    let line : List ℤ = map signed c ++ (pos 0 ∷ []) in
-    ap (λ l. line ++ l) (flat-append cs b) ∙ sym (append-assoc line (flat cs) (flat b))
 
 -- pieces joined have the texts joined
 pub clause-text-append : (a b : List Clause) → clauseText (a ++ b) ≡ clauseText a ++ clauseText b

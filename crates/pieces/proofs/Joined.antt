@@ -45,12 +45,12 @@ drop-short zero cs h = h
 drop-short (suc i) [] h = tt
 drop-short (suc i) (c ∷ cs) h = drop-short i cs (h .1)
 
-flat-both : (a b : List Clause) → flat (a ++ b) ≡ flat a ++ flat b
+pub flat-append : (a b : List Clause) → flat (a ++ b) ≡ flat a ++ flat b
 unfolding flat
-flat-both [] b = refl
-flat-both (c ∷ cs) b =
+flat-append [] b = refl
+flat-append (c ∷ cs) b =
     let line : List ℤ = map signed c ++ (pos 0 ∷ []) in
-    ap (λ l. line ++ l) (flat-both cs b) ∙ sym (append-assoc line (flat cs) (flat b))
+    ap (λ l. line ++ l) (flat-append cs b) ∙ sym (append-assoc line (flat cs) (flat b))
 
 module _ (J : Job) (h : fit J ≡ true) where
   abbrev cs : List Clause
@@ -69,7 +69,7 @@ module _ (J : Job) (h : fit J ≡ true) where
   call : (c : ℕ) (old : List ℤ) → Asked J c (length old) → Gives J c old (piece J c (length old))
   unfolding written bufferAfter
   call c old a =
-      let e = no-refusal J c old h (a .first) (a .last) (a .wide) in
+      let e = no-refusal J c (length old) h (a .first) (a .last) (a .wide) in
       record { answer = rw e refl; buffer = rw e refl }
 
   -- ---- one call after the other
@@ -112,7 +112,7 @@ module _ (J : Job) (h : fit J ≡ true) where
           rw (given .answer, given .buffer)
           (ap (λ x. x ++ next (length p)) (take-at (flat p) (drop (0 + length (flat p)) old) (length (flat p)) refl)
           ∙ ap (λ x. flat p ++ x) (others ∙ ap (λ i. flat (drop i cs)) e)
-          ∙ sym (flat-both p (drop (c - 1 + length p) cs))
+          ∙ sym (flat-append p (drop (c - 1 + length p) cs))
           ∙ ap flat (sym (beginning c (length old))))
 
   calls-from : (c : ℕ) (olds : List (List ℤ)) → 1 ≤ c → EachRoomy olds → length cs < c + length olds

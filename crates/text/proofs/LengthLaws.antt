@@ -17,16 +17,16 @@ use Rattle.lists.proofs.Logic.{split}
 use Rattle.lists.proofs.RowLaws.{length-tab}
 use Rattle.lists.proofs.PlaceLaws.{first-most}
 use Rattle.job.specs.declared.Job.{Job}
+use Rattle.lists.specs.Numerals.{numeral}
+use Rattle.lists.proofs.NumeralLaws.{length-few, length-small, length-word}
 use Rattle.job.specs.declared.Refusal.{Refusal}
 use Rattle.job.specs.Limits.{maxSteps, maxBound}
 use Rattle.job.specs.Table.{n}
 use Rattle.job.specs.RunToValues.{groupByte}
 use Rattle.put.specs.Names.{nameAt}
-use Rattle.text.specs.Numerals.{numeral}
 use Rattle.text.specs.Dimacs.{told, numberText}
 use Rattle.text.specs.Lines.{sentence, header, refused}
 use Rattle.text.specs.RunText.{word, bitText, bitsText, turnText, stepsText, lineText, runLine}
-use Rattle.text.proofs.NumeralLaws.{length-few, length-small, length-word}
 use Rattle.text.proofs.SignLaws.{size-small}
 use Rattle.text.proofs.ToldLaws.{length-less, length-not-less}
 
