@@ -10,6 +10,7 @@ use Rattle.lists.specs.Writing.{write}
 use Rattle.text.specs.Whole.{printed, withText}
 use Rattle.text.specs.declared.Printed.{Printed}
 use Rattle.text.specs.declared.Printed.the-variants.{Bytes, Short}
+use Rattle.outputs.specs.Printing.{zeros, Holds}
 
 module _ (text old new : List ℕ) (room : length text ≤ length old) (r : Printed) (given : (r ≡ printed text old) × (new ≡ withText text old)) where
   whole : r ≡ Bytes (length text)
@@ -27,6 +28,17 @@ module _ (text old new : List ℕ) (room : length text ≤ length old) (r : Prin
       let k : Short ≡ Bytes (length text) = sym e ∙ whole in
       let z : _≡_ {A = ℕ} 0 1 = cc in
       omega arith
+
+-- what is written at the front lies in the buffer
+pub written-within : (old new text : List ℕ) (n : ℕ) → n ≡ length text → new ≡ write old 0 text → (n ≤ length new) × (n ≡ length (take n new))
+written-within old new text n e h =
+    let l = ap length h ∙ length-append text (drop (0 + length text) old) in
+    let front : take n new ≡ text = ap (take n) h ∙ take-at text (drop (0 + length text) old) n (sym e) in
+    (omega arith, e ∙ sym (ap length front))
+
+-- the same of an array that a text was made in
+pub holds-within : {room : ℕ} {text array : List ℕ} {n : ℕ} → Holds room text array n → (n ≤ length array) × (n ≡ length (take n array))
+holds-within {room} {text} {array} {n} h = written-within (zeros room) array text n (h .size) (h .bytes)
 
 -- ---- a text at the front of a buffer, and then one at the front of what is left
 

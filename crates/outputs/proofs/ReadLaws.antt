@@ -1,7 +1,7 @@
 -- What is printed of a text by what reading it answered: acceptance or a refusal.
 use mathlib.Core.Path.{_≡_, refl, sym, ap, _∙_, subst}
-use mathlib.Core.Bool.{true, cond}
-use mathlib.Core.List.{List, [], _++_, append-nil, append-assoc}
+use mathlib.Core.Bool.{true}
+use mathlib.Core.List.{List, [], _++_, append-nil}
 use Prim.Native.Nat.{ℕ, _≤_, _<_}
 use native.Mathlib.Omega.{arith}
 use borrow.Author.Tests.{le-ltb}
@@ -91,10 +91,12 @@ dimacs-parts text = go (readJob text .answer)
     go (refuses number place) = append-nil _
 
 -- where clauses follow, the table is fit and they are its clauses
-pub following-some : (text : List ℕ) → 0 < length (following text)
-    → (fit (readJob text .table) ≡ true) × (following text ≡ clauses (readJob text .table))
+pub following-some : (text : List ℕ) (J : Job) (k : ℕ) → J ≡ readJob text .table → k ≡ length (following text) → 0 < k
+    → (fit J ≡ true) × (k ≡ length (clauses J))
 unfolding following readJob
-following-some text = go (reading text .verdict) refl
+following-some text J k e n l =
+    let (fits, same) = go (reading text .verdict) refl (omega arith) in
+    (rw e fits, n ∙ rw e (ap length same))
   where
     go : (v : Verdict) → reading text .verdict ≡ v → let J = reading text .job in
         0 < length (behind (answerOf v) (clauses J)) → (fit J ≡ true) × (behind (answerOf v) (clauses J) ≡ clauses J)
