@@ -10,14 +10,17 @@ STEPS, LEMMAS, NAMES = 100, 100, 64
 KINDS = {"maybe": 1, "critical": 2, "if": 4}
 
 
-class Table(ctypes.Structure):
-    """The table as crate `foreign` takes it."""
+# The table as C lays it out. Crate `parse_ffi` has the names in it, crate `foreign` takes it without them.
+PROGRAM = [(name, ctypes.c_size_t) for name in ("bound", "steps", "variables")]
+PROGRAM += [(name, ctypes.c_uint8 * STEPS) for name in ("process", "kind")]
+PROGRAM += [(name, ctypes.c_uint16 * STEPS) for name in ("to", "other")]
+PROGRAM += [(name, ctypes.c_uint8 * STEPS) for name in ("variable", "value")]
+WORDS = [(name, ctypes.c_uint8 * (4 * STEPS)) for name in ("labels", "names")]
+ROWS = [("lemmas", ctypes.c_size_t), ("lengths", ctypes.c_uint8 * LEMMAS), ("items", ctypes.c_int16 * (LEMMAS * NAMES))]
 
-    _fields_ = [(name, ctypes.c_size_t) for name in ("bound", "steps", "variables")]
-    _fields_ += [(name, ctypes.c_uint8 * STEPS) for name in ("process", "kind")]
-    _fields_ += [(name, ctypes.c_uint16 * STEPS) for name in ("to", "other")]
-    _fields_ += [(name, ctypes.c_uint8 * STEPS) for name in ("variable", "value")]
-    _fields_ += [("lemmas", ctypes.c_size_t), ("lengths", ctypes.c_uint8 * LEMMAS), ("items", ctypes.c_int16 * (LEMMAS * NAMES))]
+
+class Table(ctypes.Structure):
+    _fields_ = PROGRAM + ROWS
 
 
 def table(text):
@@ -47,6 +50,38 @@ def table(text):
             t.lengths[k] = i + 1
             item = (names + seen).index(name.lstrip("~")) + 1
             t.items[k * NAMES + i] = -item if name.startswith("~") else item
+    return t
+
+
+def faults(t):
+    """Changes of one place by which a table is that of no job (45): the field, the place where it is a row, and what stands there."""
+    steps, items = t.steps, t.steps + t.variables
+    counts = {"bound": [0, 100], "steps": [0, steps - 1, steps + 1, STEPS + 1]}
+    counts |= {"variables": [t.variables - 1, t.variables + 1], "lemmas": [t.lemmas - 1, t.lemmas + 1, LEMMAS + 1]}
+    yield from ((name, None, value) for name, values in counts.items() for value in [*values, -1])   # -1: the largest number
+    for i in range(steps):
+        strangers = [0, steps + 1, 65535, *(c + 1 for c in range(steps) if t.process[c] != t.process[i])]
+        rows = {"process": [0, 3, 255], "kind": [0, 5, 255], "to": strangers}
+        rows["other"] = strangers if t.kind[i] == KINDS["if"] else [1, steps]
+        rows["variable"] = [0, t.variables + 1, 255] if t.variable[i] else [1, 255]
+        rows["value"] = [2, 255] if t.variable[i] else [1, 255]
+        yield from ((name, i, value) for name, values in rows.items() for value in values)
+    for k in range(t.lemmas):
+        yield from (("lengths", k, value) for value in (0, NAMES + 1, 255))
+        yield from (("items", k * NAMES, value) for value in (0, items + 1, -items - 1, 32767, -32768))
+    # unused places: the first and the last
+    yield from ((name, i, 1) for name, _ in PROGRAM[3:] for i in (steps, STEPS - 1) if i >= steps)
+    yield from (("lengths", k, 1) for k in (t.lemmas, LEMMAS - 1) if k >= t.lemmas)
+    yield from (("items", k * NAMES + i, 1) for k in range(LEMMAS) for i in {t.lengths[k], NAMES - 1} if i >= t.lengths[k])
+
+
+def changed(t, name, place, value):
+    """A copy with another value in one place."""
+    t = Table.from_buffer_copy(t)
+    if place is None:
+        setattr(t, name, value)
+    else:
+        getattr(t, name)[place] = value
     return t
 
 

@@ -1,4 +1,4 @@
-"""The proved programs, built where one is missing or older than the sources."""
+"""The proved programs and static libraries, built where one is missing or older than its sources."""
 import os
 import shutil
 import signal
@@ -8,10 +8,11 @@ import threading
 import time
 
 PROGRAMS = ["sat_mutex", "show_run", "file_job"]
+PIPES = {"stdout": subprocess.PIPE, "stderr": subprocess.STDOUT, "text": True, "errors": "replace"}
 
 
 class Failed(Exception):
-    """The programs are not there and cannot be built; the text says why."""
+    """What is needed is not there or is old, and cannot be built; the text says why."""
 
 
 class Progress:
@@ -52,14 +53,14 @@ class Progress:
                 self.write(self.stamp() + text + "\n")
 
 
-def needed(root):
-    """The crates of this repository that the programs stand on, themselves included."""
+def needed(root, names):
+    """The crates of this repository that these stand on, themselves included."""
     below = {}
     for line in (root / "crates.txt").read_text().splitlines():
         name, colon, under = line.partition(":")
         if colon and not line.startswith("#"):
             below[name] = under.split()
-    met, todo = set(), list(PROGRAMS)
+    met, todo = set(), list(names)
     while todo:
         name = todo.pop()
         if name in below and name not in met:
@@ -68,19 +69,36 @@ def needed(root):
     return met
 
 
-def is_older(root, programs):
-    """A source is newer than a program: a later version was fetched, or someone works on it."""
-    sources = [os.path.join(folder, name) for folder, _, names in os.walk(root / "crates") for name in names]
-    newest = max((os.stat(path).st_mtime for path in [*sources, root / "crates.txt"]), default=0)
-    return newest > min(path.stat().st_mtime for path in programs)
+def sources(root, crate):
+    """What a crate is built from: crates.txt, and code, definitions and proofs of the crates that it stands on."""
+    yield root / "crates.txt"
+    for name in needed(root, [crate]):
+        for part in "src", "specs", "proofs":
+            for folder, _, names in os.walk(root / "crates" / name / part):
+                yield from (os.path.join(folder, name) for name in names)
+
+
+def fault(root, crate, built):
+    """Why what was built of a crate cannot stand for its sources: it is missing, or older than one of them. None where it can."""
+    name = os.path.relpath(built, root)
+    if not built.exists():
+        return f"{name} is not there"
+    newest = max(sources(root, crate), key=os.path.getmtime)
+    return f"{name} is older than {os.path.relpath(newest, root)}" if os.path.getmtime(newest) > os.path.getmtime(built) else None
+
+
+def must_be_new(root, crate, built):
+    """For a test, which of an old program would say nothing about the sources."""
+    why = fault(root, crate, built)
+    if why:
+        raise Failed(f"{why}, so it is not tested")
 
 
 def prove(root):
     """rt's lines: those that it begins with its name tell of a crate, the others what is wrong. Who stops waiting stops the provers."""
     details = []
-    pipes = {"stdout": subprocess.PIPE, "stderr": subprocess.STDOUT, "text": True, "errors": "replace"}
-    with Progress(len(needed(root))) as progress:
-        rt = subprocess.Popen(["rt", "check", *PROGRAMS], cwd=root, start_new_session=True, **pipes)
+    with Progress(len(needed(root, PROGRAMS))) as progress:
+        rt = subprocess.Popen(["rt", "check", *PROGRAMS], cwd=root, start_new_session=True, **PIPES)
         try:
             for line in map(str.rstrip, rt.stdout):
                 if line.startswith("rt: ") and " proved" in line and not line.startswith("rt: ok"):
@@ -93,22 +111,49 @@ def prove(root):
     return rt.wait(), details[-20:]
 
 
+def date(paths, seconds):
+    """What is built again and comes out the same keeps its old time; all of it is as new as the sources were when the build began."""
+    for path in paths:
+        os.utime(path, (seconds, seconds))
+
+
+def ask_for_rt(why):
+    if not shutil.which("rt"):
+        raise Failed(f"{why}, and rt, the Rattle toolchain that proves and builds, is not on the PATH")
+
+
 def build(root, folder, say):
     """Whatever is missing or old is proved and built; without rt, programs that are there are taken as they are."""
     programs = [folder / name for name in PROGRAMS]
+    why = next(filter(None, (fault(root, path.name, path) for path in programs)), None)
     there = all(path.exists() for path in programs)
-    rt = shutil.which("rt")
-    if there and (not rt or not is_older(root, programs)):
+    if not why or there and not shutil.which("rt"):
         return
-    if not rt:
-        raise Failed("the programs are not built yet, and rt, the Rattle toolchain that proves and builds them, is not on the PATH")
-    if not there:
+    ask_for_rt("the programs are not built yet")
+    if there:
+        say(f"{why}: the programs are built again.")
+    else:
         say("Building the programs. Their proofs are checked first; that takes some minutes, once.")
+    begin = time.time()
     status, details = prove(root)
     if status:
         raise Failed("\n".join(["the programs could not be built", *details]))
     for path in programs:
         if not path.exists():
             raise Failed(f"all is proved, but {path} is not there: remove the folder target and try again")
-    for path in programs:
-        os.utime(path)
+    date(programs, begin)
+
+
+def library(root, crate, say):
+    """The crate's static library, proved and built where it is missing or old."""
+    path = root / "target" / "staticlib" / f"lib{crate}.a"
+    why = fault(root, crate, path)
+    if why:
+        ask_for_rt(why)
+        say(f"{why}: it is built.")
+        begin = time.time()
+        rt = subprocess.run(["rt", "staticlib", crate], cwd=root, **PIPES)
+        if rt.returncode:
+            raise Failed("\n".join([f"{path.name} could not be built", *rt.stdout.splitlines()[-20:]]))
+        date([path], begin)
+    return path

@@ -14,6 +14,8 @@ import checker
 import replies
 import tables
 
+SOLVED = b"s SATISFIABLE\nv 1 2 -3 4 5 6 7 -8 -9 10 0\n"
+
 
 def model(variables, clauses):
     """A solution by a plain search with unit clauses, or None."""
@@ -47,7 +49,7 @@ def model(variables, clauses):
 
 
 def expected(check):
-    """Both checkers on the list of expected.txt, and the proved one on 45, 51 and 60."""
+    """Both checkers on the list of expected.txt, and on 45, 51 and 60, which change no byte."""
     text = open(os.path.join(HERE, "../generator/jobs/one_bit.txt")).read()
     table, (variables, clauses) = tables.table(text), tables.clauses(text)
     wrong = count = 0
@@ -59,20 +61,29 @@ def expected(check):
             wrong += 1
             print(f"{what!r}: wanted {want}, got {got}")
 
+    def hold_both(number, place, reply, buffer, what):
+        second = checker.check(variables, clauses, reply, buffer)
+        hold((number, place, *second), (*second[:2], *check(table, reply, buffer)), what)
+
     old = bytes(range(200, 213))
     for line in open(os.path.join(HERE, "expected.txt")):
         if line.startswith("#"):
             continue
         number, place = map(int, line.split()[:2])
         reply = line.rstrip("\n")[7:].encode().decode("unicode_escape").encode("latin-1")
-        second = checker.check(variables, clauses, reply, old)
-        hold((number, place, *second), (*second[:2], *check(table, reply, old)), reply)
-    hold((51, 0, bytes(9)), check(table, b"", bytes(9)), "a buffer of 9 bytes")
+        hold_both(number, place, reply, old, reply)
     long = b"c" * checker.LONGEST
-    hold((60, 0, old), check(table, long + b"c", old), "a byte too many")
-    hold((61, 1), check(table, long, old)[:2], "no byte too many")
-    table.bound = 0
-    hold((45, 0, bytes(9)), check(table, long + b"c", bytes(9)), "bound 0")
+    hold((61, 1, bytes(variables) + old[variables:]), check(table, long, old), "no byte too many")
+    unfit = tables.table(text)
+    unfit.bound = 0
+    for reply in b"", SOLVED, long + b"c":
+        for length in 0, 9, 10, 13:
+            buffer, what = old[:length], f"a reply of {len(reply)} bytes, a buffer of {length}"
+            hold((45, 0, buffer), check(unfit, reply, buffer), what + ", bound 0")
+            if length < variables:
+                hold_both(51, 0, reply, buffer, what)
+            elif len(reply) > checker.LONGEST:
+                hold_both(60, 0, reply, buffer, what)
     print(f"the checker: {count} answers written by hand, {wrong} differ")
     return wrong
 
@@ -89,7 +100,8 @@ def compared(check, how_many, seed):
     for i in range(how_many):
         table, variables, clauses, solution = jobs[i % len(jobs)]
         text = replies.reply(r, variables, solution)
-        size = r.choice([variables, variables + 1, variables + r.randrange(1, 300), variables - 1 if r.random() < 0.2 else variables])
+        short = r.randrange(variables) if r.random() < 0.2 else variables
+        size = r.choice([variables, variables + 1, variables + r.randrange(1, 300), short])
         buffer = bytes(r.randrange(256) for _ in range(size))
         want = checker.check(variables, clauses, text, buffer)
         got = check(table, text, buffer)

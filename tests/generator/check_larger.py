@@ -5,16 +5,16 @@ hand-made table of jobs/larger.txt.  Literals are tuples such as ("A0", 1) for
 
 A_STEPS = ["A0", "A1", "A2", "A3", "A4", "A5", "Aend"]
 B_STEPS = ["B", "B1", "B2", "Bw", "Bcs", "B9"]
-ITEMS = ["A0", "B", "A1", "B1", "A2", "B2", "A3", "A4", "Bw", "A5", "Bcs", "Aend", "B9", "a", "b", "tn"]
-STEPS, VARIABLES, R = ITEMS[:13], ITEMS[13:], 2
+ITEMS = ["A0", "B", "A1", "B1", "A2", "B2", "A3", "A4", "Bw", "A5", "Bcs", "Aend", "B9", "b", "a", "tn"]
+STEPS, VARIABLES, R = ITEMS[:13], ITEMS[13:], 3
 GOTO = {"A0": "A1", "A1": "A2", "A2": "A3", "A5": "Aend", "Aend": "A0",
-        "B": "B1", "B1": "B2", "B2": "Bw", "Bcs": "B9", "B9": "B"}
+        "B1": "B2", "B2": "Bw", "Bcs": "B9", "B9": "B"}
 SETS = {"A1": ("a", 1), "B1": ("b", 1), "A2": ("tn", 1), "B2": ("tn", 0), "Aend": ("a", 0), "B9": ("b", 0)}
 
 # Numbering
-names = [(c, t) for t in range(3) for c in ITEMS] + [("turn", 0), ("turn", 1)]
-names += [(h, t) for t in range(3) for h in ("hA1", "hA2", "hB1")]
-names += [(c, u, v) for u, v in ((0, 1), (0, 2), (1, 2)) for c in ITEMS]
+names = [(c, t) for t in range(4) for c in ITEMS] + [("turn", 0), ("turn", 1), ("turn", 2)]
+names += [(h, t) for t in range(4) for h in ("hA1", "hA2", "hB1")]
+names += [(c, u, v) for u, v in ((0, 1), (0, 2), (1, 2), (0, 3), (1, 3), (2, 3)) for c in ITEMS]
 
 clauses = []
 def clause(text, t=None, u=None, v=None):
@@ -58,12 +58,15 @@ for t in range(R):
             clause(f"-U -{s} {GOTO[s]}'", t)
     for s in B_STEPS:
         clause(f"-U -{s} {s}'", t)
-        if s == "Bw":           # L is the step; the test is "a"
+        if s == "B":            # L is the step, and so is M; the test is "b"
+            clause("U -B B'", t)
+            clause("U -B -b", t)
+        elif s == "Bw":         # L is the step; the test is "a"
             clause("U -Bw Bcs'", t)
             clause("U -Bw -a", t)
         else:
             clause(f"U -{s} {GOTO[s]}'", t)
-    for x, of_a, of_b in (("a", "A1 Aend", ""), ("b", "", "B1 B9"), ("tn", "A2", "B2")):
+    for x, of_a, of_b in (("b", "", "B1 B9"), ("a", "A1 Aend", ""), ("tn", "A2", "B2")):
         for s in STEPS:
             if SETS.get(s, ("",))[0] == x:
                 clause(("-U" if s[0] == "A" else "U") + f" -{s} " + ("" if SETS[s][1] else "-") + x + "'", t)
@@ -83,7 +86,7 @@ for words in ("-A5 -Bcs", "a A0 A1"):
     for t in range(R + 1):
         clause(words, t)
 
-head = ["c ~ two flags and a turn bit; A looks in two steps, B at one flag only",
+head = ["c ~ two flags and a turn bit; A looks in two steps, B at one flag only, and B ends where both ways lead back",
         "c ~ the critical steps and the way back",
         f"p cnf {len(names)} {len(clauses)}"]
 same = open("larger.cnf").read() == "\n".join(head + clauses) + "\n"

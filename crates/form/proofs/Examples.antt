@@ -18,6 +18,7 @@ use Rattle.lines.specs.FirstLine.{firstLine, numberAt, valueOf}
 use Rattle.lines.specs.FirstLine.{then as thenFirst}
 use Rattle.lines.specs.StepLine.{fresh, bitOf, elseLine, endLine, gotoLine, testLine, kindLine, stepLine}
 use Rattle.lines.specs.StepLine.{then as thenStep}
+use Rattle.items.specs.Items.{namedIn}
 use Rattle.program.specs.Draft.{blank, mentionAt, processOf, otherEnd, enter, addStep}
 use Rattle.program.specs.ProgramLine.{isLemmas, isComment, stepped, programLine}
 use Rattle.program.specs.ProgramLine.{pick as pickLined, whole as wholeProgramLine}
@@ -25,12 +26,13 @@ use Rattle.program.specs.Program.{follow, program, opened, fromLine1, programOf
 use Rattle.program.specs.Program.{whole as wholeLine1}
 use Rattle.parse.specs.Answers.{withoutLemmas, by}
 use Rattle.parse.specs.Labels.{targetOf, aim, enterTo, enterOther, on, linkStep, link, started, atLemmas}
-use Rattle.parse.specs.Lemmas.{filled, words, bare, itemIn, named, lemma, whole, lemmaLine, lemmaLines}
+use Rattle.parse.specs.Lemmas.{filled, words, bare, named, lemma, whole, lemmaLine, lemmaLines}
 use Rattle.parse.specs.Reading.{fromLemmas, reading}
 use Rattle.order.specs.Sorting.{insert, sort, fromLeft, keep}
+use Rattle.job.specs.Literals.{has}
 use Rattle.job.specs.Table.{lemma as lemmaAt}
 use Rattle.put.specs.Names.{nameAt}
-use Rattle.form.specs.Lemmas.{has, bothSigns, remaining, filed}
+use Rattle.form.specs.Lemmas.{bothSigns, remaining, filed}
 use Rattle.form.specs.Form.{kept, nameOf, spelt, spaced, ended, form}
 
 unfoldable bytes : String → List ℕ
@@ -47,7 +49,7 @@ one-bit : filedAs
 unfolding bytes remaining filed bothSigns has sort insert fromLeft keep kept nameOf spelt spaced ended form nameAt lemmaAt every all within each passing first firstOf bothCritical cut upTo allOf starts alnum headed rows lines entryIs lookup wordField fixedField
     bitField rangeField endField wholeLine firstLine numberAt valueOf thenFirst fresh bitOf elseLine endLine gotoLine testLine kindLine stepLine thenStep
     blank mentionAt processOf otherEnd enter addStep isLemmas isComment stepped programLine pickLined wholeProgramLine follow program opened fromLine1
-    programOf wholeLine1 withoutLemmas by targetOf aim enterTo enterOther on linkStep link started atLemmas filled words bare itemIn named lemma whole
+    programOf wholeLine1 withoutLemmas by targetOf aim enterTo enterOther on linkStep link started atLemmas filled words bare namedIn named lemma whole
     lemmaLine lemmaLines fromLemmas reading
 one-bit = refl
 
@@ -57,6 +59,6 @@ all-dropped : filedAs
 unfolding bytes remaining filed bothSigns has sort insert fromLeft keep kept nameOf spelt spaced ended form nameAt lemmaAt every all within each passing first firstOf bothCritical cut upTo allOf starts alnum headed rows lines entryIs lookup wordField fixedField
     bitField rangeField endField wholeLine firstLine numberAt valueOf thenFirst fresh bitOf elseLine endLine gotoLine testLine kindLine stepLine thenStep
     blank mentionAt processOf otherEnd enter addStep isLemmas isComment stepped programLine pickLined wholeProgramLine follow program opened fromLine1
-    programOf wholeLine1 withoutLemmas by targetOf aim enterTo enterOther on linkStep link started atLemmas filled words bare itemIn named lemma whole
+    programOf wholeLine1 withoutLemmas by targetOf aim enterTo enterOther on linkStep link started atLemmas filled words bare namedIn named lemma whole
     lemmaLine lemmaLines fromLemmas reading
 all-dropped = refl

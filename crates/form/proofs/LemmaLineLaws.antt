@@ -23,14 +23,16 @@ use Rattle.scan.specs.Lines.{Row}
 use Rattle.fields.specs.Fields.{wholeLine}
 use Rattle.fields.specs.declared.Field.{Field}
 use Rattle.fields.specs.declared.Field.the-variants.{Read, No}
+use Rattle.items.specs.declared.Named.{Named}
+use Rattle.items.specs.declared.Named.the-variants.{Item, Unknown}
 use Rattle.parse.specs.Answers.{refuse, accept, then, by, pick}
-use Rattle.parse.specs.Lemmas.{words, bare, negated, itemOf, signed, withItem, named, lemma, whole, lemmaLine, lemmaLines}
-use Rattle.parse.proofs.LemmaLaws.{lemma-on, lemma-done}
+use Rattle.parse.specs.Lemmas.{words, bare, negated, itemIn, signed, withItem, named, lemma, whole, lemmaLine, lemmaLines}
+use Rattle.parse.proofs.LemmaLaws.{OneOf, item-one, lemma-on, lemma-done}
 use Rattle.parse.specs.declared.Verdict.{Verdict}
 use Rattle.parse.specs.declared.Verdict.the-variants.{Accepted, Refused}
 use Rattle.parse.specs.declared.Reading.{Reading}
 use Rattle.form.specs.Form.{lemmasOf}
-use Rattle.form.proofs.SpellingLaws.{Known, literalOf}
+use Rattle.form.proofs.SpellingLaws.{itemNumber, itemOf, Known, literalOf}
 
 -- ---- the table after a lemma line
 
@@ -95,6 +97,11 @@ pick-ok : (b : Bool) (number place : ℕ) (r : Reading) → Ok (pick b (refuse n
 pick-ok true number place r h = not-ok number place h
 pick-ok false number place r h = (refl, h)
 
+-- a name that is known is an item
+known-item : (x : Named) → (itemNumber x ≡ 0 → ⊥) → x ≡ Item (itemNumber x)
+known-item (Item i) z = refl
+known-item Unknown z = absurd (z refl)
+
 module _ (n : ℕ) where
   -- names that are known, and not too many
   lemma-is : (J : Job) (k : ℕ) (ws : List (List ℕ)) → ((w : List ℕ) → In w ws → Known J w) → 1 ≤ k + length ws → k + length ws ≤ maxNames
@@ -109,23 +116,28 @@ module _ (n : ℕ) where
       let items = set (J .items) (at + k) (value J w) in
       let count : k + 1 + length ws ≡ k + suc (length ws) = omega arith in
       let place : at + (k + 1) ≡ at + k + 1 = omega arith in
-      lemma-on J n k w ws (itemOf J (bare w)) (omega arith) refl (h w (inl refl))
+      lemma-on J n k w ws (itemOf J (bare w)) (omega arith) (known-item (itemIn J (bare w)) (h w (inl refl)))
       ∙ lemma-is (withItem J k (value J w)) (k + 1) ws (λ v i. h v (inr i)) (omega arith) (omega arith)
       ∙ ap (λ c. accept (withLemma J c (withWords (value J) (at + (k + 1)) ws items))) count
       ∙ ap (λ p. accept (withLemma J (k + suc (length ws)) (withWords (value J) p ws items))) place
 
+  named-told : (J : Job) (k w : ℕ) (negative : Bool) (x : Named) → OneOf w x → Ok (named J n k negative x) → itemNumber x ≡ 0 → ⊥
+  unfolding named
+  named-told J k w negative (Item i) h g z = omega (arith, h .0, z)
+  named-told J k w negative Unknown h g z = not-ok 43 n g
+
   lemma-told : (J : Job) (k : ℕ) (ws : List (List ℕ)) → k ≤ maxNames → Ok (lemma J n k ws)
       → ((w : List ℕ) → In w ws → Known J w) × (1 ≤ k + length ws) × (k + length ws ≤ maxNames)
-  unfolding lemma named
+  unfolding lemma
   lemma-told J k [] l h =
       let z : k ≡ 0 → ⊥ = eqb-false k 0 (pick-ok (eqb k 0) 42 n _ h .0) in
       ((λ w i. absurd i), omega arith, omega arith)
   lemma-told J k (w ∷ ws) l h =
-      let i = itemOf J (bare w) in
+      let x = itemIn J (bare w) in
       let (b, g) = pick-ok (leb maxNames k) 44 n _ (then-ok _ _ h .0) in
       let room : k < maxNames = leb-false maxNames k b in
-      let z : i ≡ 0 → ⊥ = eqb-false i 0 (pick-ok (eqb i 0) 43 n _ g .0) in
-      let next = lemma-on J n k w ws i room refl z in
+      let z : Known J w = named-told J k _ (negated w) x (item-one J (bare w)) g in
+      let next = lemma-on J n k w ws (itemNumber x) room (known-item x z) in
       let (known, some, few) = lemma-told (withItem J k (value J w)) (k + 1) ws (omega arith) (ap (λ (r : Reading). r .verdict) (sym next) ∙ h) in
       ((λ v m. either v z known m), omega arith, omega arith)
     where

@@ -33,17 +33,6 @@ form-same a b J K k n f =
     ap (λ x. ended (x ++ (lemmasWord ∷ map (lemmaText K) (filed (lemmasOf K))))) k
     ∙ ap (λ x. ended (kept (lines a) ++ (lemmasWord ∷ x))) (ap (map (lemmaText K)) f ∙ texts-same J K n (filed (lemmasOf J)))
 
-pub one-form : (text : List ℕ) → IsJob text → OneForm text
-one-form text h =
-    let T = told text h in
-    let lemmas = form-lemmas text T in
-    record {
-      accepted = form-accepted text T;
-      twice = form-same text (formOf text) (jobOf text) (jobOf (formOf text)) (form-kept text T) (form-named text T) (ap filed lemmas ∙ filed-twice (lemmasOf (jobOf text)));
-      runs = runs-same (jobOf text) (jobOf (formOf text)) (form-program text T) lemmas;
-      no-longer = form-shorter text T;
-    }
-
 -- ---- equal exactly
 
 -- the table's bound is that of line 1
@@ -127,3 +116,24 @@ equal-exactly a b h k =
     let A = told a h in
     let B = told b k in
     (equal-agree a b A B, agree-equal a b A B)
+
+-- ---- one form
+
+pub one-form : (text : List ℕ) → IsJob text → OneForm text
+one-form text h =
+    let T = told text h in
+    let again = form-accepted text T in
+    let lemmas = form-lemmas text T in
+    let named = form-named text T in
+    let twice = form-same text (formOf text) (jobOf text) (jobOf (formOf text)) (form-kept text T) named
+    (ap filed lemmas ∙ filed-twice (lemmasOf (jobOf text))) in
+    record {
+      accepted = again;
+      agrees = equal-agree (formOf text) text (told (formOf text) again) T twice;
+      program = form-program text T;
+      labels = named .labels;
+      names = named .names;
+      twice = twice;
+      runs = runs-same (jobOf text) (jobOf (formOf text)) (form-program text T) lemmas;
+      no-longer = form-shorter text T;
+    }

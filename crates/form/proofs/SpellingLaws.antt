@@ -26,9 +26,20 @@ use Rattle.scan.specs.declared.Found.{Found}
 use Rattle.scan.specs.declared.Found.the-variants.{At, Nothing}
 use Rattle.scan.proofs.NameLaws.{lookup-below}
 use Rattle.put.specs.Names.{nameAt}
-use Rattle.parse.specs.Lemmas.{bare, negated, itemAt, itemIn, itemOf, signed}
+use Rattle.items.specs.Items.{pickNamed, namedAt, namedIn}
+use Rattle.items.specs.declared.Named.{Named}
+use Rattle.items.specs.declared.Named.the-variants.{Item, Unknown}
+use Rattle.parse.specs.Lemmas.{bare, negated, itemIn, signed}
 use Rattle.form.specs.Form.{nameOf, spelt}
 use Rattle.form.proofs.WrittenLaws.{Free}
+
+-- the item of a name, 0 where it is unknown
+abbrev pub itemNumber : Named → ℕ
+itemNumber (Item i) = i
+itemNumber Unknown = 0
+
+abbrev pub itemOf : Job → List ℕ → ℕ
+itemOf J w = itemNumber (itemIn J w)
 
 -- the literal that a word is read as
 abbrev pub literalOf : Job → List ℕ → Literal
@@ -97,11 +108,12 @@ entry-spelt names w i h f e =
 -- ---- the item of a name, and a word with its sign
 
 name-spelt : (J : Job) (w : List ℕ) (x : ℕ) → Free 0 w → itemOf J w ≡ suc x → nameOf J x ≡ w
-unfolding itemIn nameOf
+unfolding namedIn nameOf
 name-spelt J w x f e = go (within 1 4 (length w)) refl (lookup (J .labels) (J .program .steps) w) refl (lookup (J .names) (J .program .variables) w) refl e
   where
     go : (b : Bool) → within 1 4 (length w) ≡ b → (g : Found) → lookup (J .labels) (J .program .steps) w ≡ g
-        → (h : Found) → lookup (J .names) (J .program .variables) w ≡ h → cond b (itemAt g h (J .program .steps)) 0 ≡ suc x
+        → (h : Found) → lookup (J .names) (J .program .variables) w ≡ h
+        → itemNumber (pickNamed b (namedAt g h (J .program .steps)) Unknown) ≡ suc x
         → cond (ltb x (J .program .steps)) (nameAt (J .labels) x) (nameAt (J .names) (x - J .program .steps)) ≡ w
     go false p g q h r e = absurd (omega arith)
     go true p (At i) q h r e =
@@ -115,7 +127,7 @@ name-spelt J w x f e = go (within 1 4 (length w)) refl (lookup (J .labels) (J .p
     go true p Nothing q Nothing r e = absurd (omega arith)
 
 no-name : (J : Job) → itemOf J [] ≡ 0
-unfolding itemIn within every
+unfolding namedIn within every
 no-name J = refl
 
 module _ (J : Job) where

@@ -37,6 +37,11 @@ pub record Agree (a b : List ℕ) : Type 0 where
 pub record OneForm (text : List ℕ) : Type 0 where
   -- what is written is an accepted job
   pub accepted : IsJob (formOf text)
+  -- of the same job: line 1, the step lines and the remaining lemmas are the text's own, and so are the steps and every name
+  pub agrees : Agree (formOf text) text
+  pub program : jobOf (formOf text) .program ≡ jobOf text .program
+  pub labels : jobOf (formOf text) .labels ≡ jobOf text .labels
+  pub names : jobOf (formOf text) .names ≡ jobOf text .names
   -- 'Filing twice changes nothing;'
   pub twice : formOf (formOf text) ≡ formOf text
   -- 'runs are the same;'

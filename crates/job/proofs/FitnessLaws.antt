@@ -17,13 +17,13 @@ use Rattle.lists.proofs.TestLaws.{passed, is-within, all-at, all-fewer}
 use Rattle.job.specs.declared.Job.{Job}
 use Rattle.job.specs.declared.Program.{Program}
 use Rattle.job.specs.declared.Literal.{Literal}
-use Rattle.job.specs.declared.Literal.the-variants.{On, Off}
 use Rattle.job.specs.declared.Action.the-variants.{Maybe, Critical, Assign, If}
 use Rattle.job.specs.Limits.{maxSteps, maxLemmas, maxNames, maxBound}
 use Rattle.job.specs.Literals.{Clause}
 use Rattle.job.specs.Table.{Process, w, process, action, actionOf, itemOf, lemma}
 use Rattle.job.specs.Fitness.{larger, hasVariable, isStep, otherFits, variableFits, usedStep, unusedStep, mentioned, stepFits, stepsFit, programFits, itemFits, placeFits, lengthFits, placesFit, lemmaFits, lemmasFit, fit}
-use Rattle.job.proofs.Good.{Leads, Stays, Below, Good}
+use Rattle.job.specs.InRange.{Below}
+use Rattle.job.proofs.Good.{Leads, Stays, Good}
 
 -- ---- the larger of two
 
@@ -191,10 +191,9 @@ lemma-is lengths items count w c h k l =
     let n = is-within 1 maxNames (num lengths k) (rw (lt-ltb k count l) at a) in
     (n .0, n .1, λ i j. rw (lt-ltb i (num lengths k) j) at (all-at place maxNames b i (omega (arith, n .1))))
 
-below-append : (k : ℕ) (a b : Clause) → Below k a → Below k b → Below k (a ++ b)
+pub below-append : (k : ℕ) (a b : Clause) → Below k a → Below k b → Below k (a ++ b)
 below-append k [] b h i = i
-below-append k (On x ∷ a) b h i = (h .0, below-append k a b (h .1) i)
-below-append k (Off x ∷ a) b h i = (h .0, below-append k a b (h .1) i)
+below-append k (l ∷ a) b h i = (h .0, below-append k a b (h .1) i)
 
 below-tab : (k i : ℕ) (f : ℕ → Literal) → ((j : ℕ) → j < i → Below k (f j ∷ [])) → Below k (tab i f)
 unfolding each

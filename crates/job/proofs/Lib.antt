@@ -2,6 +2,7 @@
 pub mod Good
 pub mod SignLaws
 pub mod FitnessLaws
+pub mod InRange
 pub mod SatLaws
 pub mod ExclusionLaws
 pub mod MeaningLaws
@@ -16,4 +17,5 @@ pub mod MarkedCases
 pub mod OneBitListing
 pub mod LargerListing
 pub mod Listings
-pub mod Examples
+pub mod FitCases
+pub mod RunCases

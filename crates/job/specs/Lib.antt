@@ -7,6 +7,7 @@ pub mod Meaning
 pub mod Numbering
 pub mod Exclusion
 pub mod Clauses
+pub mod InRange
 pub mod Fitness
 pub mod Satisfaction
 pub mod ReadOff
@@ -14,3 +15,5 @@ pub mod RunToValues
 pub mod Accuracy
 pub mod OneBit
 pub mod Cases
+pub mod FitCases
+pub mod RunCases

@@ -5,3 +5,4 @@ pub mod TestLaws
 pub mod PlaceLaws
 pub mod WritingLaws
 pub mod PieceLaws
+pub mod NumeralLaws

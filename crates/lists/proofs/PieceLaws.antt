@@ -1,7 +1,7 @@
 -- Laws of parts of a text and of its pieces: one law for each way out of a loop over its bytes, lines or words.
 use mathlib.Core.Path.{_≡_, refl, sym, ap, _∙_}
 use mathlib.Core.Bool.{Bool, true, false, _&&_, cond, false≢true}
-use mathlib.Core.List.{List, [], _∷_}
+use mathlib.Core.List.{List, [], _∷_, _++_}
 use Prim.Native.Nat.{ℕ, zero, suc, _+_, _-_, _≤_, _<_}
 use native.Mathlib.Omega.{arith}
 use native.Mathlib.Nat.{zero-add, suc-add}
@@ -138,6 +138,21 @@ cut-first k (b ∷ bs) h = go (eqb b k) h (cut-first k bs)
         → cond t (piece [] (cut k bs)) (onto b (cut k bs)) ≡ first (cond t [] (b ∷ upTo k bs)) (b ∷ bs)
     go true h f = refl
     go false h f = ap (onto b) (f (omega arith))
+
+-- no byte is k
+abbrev pub Without : ℕ → List ℕ → Type 0
+Without k [] = Unit {0}
+Without k (b ∷ bs) = (b ≡ k → ⊥) × Without k bs
+
+pub without-append : (k : ℕ) (a b : List ℕ) → Without k a → Without k b → Without k (a ++ b)
+without-append k [] b h l = l
+without-append k (x ∷ a) b h l = (h .0, without-append k a b (h .1) l)
+
+-- a piece with its k in front of a text
+pub cut-front : (k : ℕ) (p rest : List ℕ) → Without k p → cut k (p ++ (k ∷ rest)) ≡ piece p (cut k rest)
+unfolding cut
+cut-front k [] rest h = rw (eq-eqb k k refl)
+cut-front k (b ∷ p) rest h = rw (ne-eqb b k (h .0)) (ap (onto b) (cut-front k p rest (h .1)))
 
 -- e is where the piece that begins at i ends
 module _ (k : ℕ) (s : List ℕ) (i to e : ℕ) (l : i ≤ to) (h : to ≤ length s) (at : e ≡ i + length (upTo k (slice i to s))) where

@@ -4,3 +4,4 @@ pub mod Tests
 pub mod Places
 pub mod Writing
 pub mod Pieces
+pub mod Numerals

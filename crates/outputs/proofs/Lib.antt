@@ -3,5 +3,4 @@ pub mod PrintingLaws
 pub mod ReadLaws
 pub mod RunLength
 pub mod ShowLaws
-pub mod ShortClauses
 pub mod PieceLaws

@@ -1,21 +1,21 @@
--- A piece that begins at a clause of a fit job is never empty; and the text of a piece is that of its clauses.
+-- The text of a piece is that of its clauses, and pieces joined have the texts joined.
 use mathlib.Core.Path.{_≡_, refl, sym, ap, _∙_}
 use mathlib.Core.Bool.{Bool, true, false, cond}
-use mathlib.Core.List.{List, [], _∷_, _++_, map, append-assoc}
+use mathlib.Core.List.{List, [], _++_, append-assoc}
 use Prim.Native.Nat.{ℕ, zero, suc, _+_, _*_, _-_, _≤_, _<_}
 use native.Mathlib.Omega.{arith}
-use borrow.Author.Tests.{lt-ltb, le-ltb, ne-eqb}
-use lib.Dec.{eqb, ltb}
-use lib.IntN.{ℤ, pos}
-use lib.ListN.{length, take, drop, length-append, length-drop}
+use native.Mathlib.Decide.{decLt}
+use borrow.Author.Tests.{ne-eqb}
+use lib.Dec.{eqb}
+use lib.IntN.{ℤ}
+use lib.ListN.{length, take, drop, length-append, length-drop, drop-of-length-le}
 use lib.Seq.{take-at}
 use Rattle.lists.specs.Rows.{each}
 use Rattle.lists.specs.Writing.{write}
-use Rattle.lists.proofs.TestLaws.{within-is}
 use Rattle.lists.proofs.WritingLaws.{write-none}
 use Rattle.job.specs.declared.Job.{Job}
 use Rattle.job.specs.declared.Refusal.{Refusal}
-use Rattle.job.specs.Literals.{Clause, signed}
+use Rattle.job.specs.Literals.{Clause}
 use Rattle.job.specs.Clauses.{clauses}
 use Rattle.job.specs.Fitness.{fit}
 use Rattle.cnf.specs.declared.Written.{Written}
@@ -23,6 +23,8 @@ use Rattle.cnf.specs.declared.Written.the-variants.{Refused}
 use Rattle.cnf.specs.declared.Written.the-variants.{Piece as Given}
 use Rattle.cnf.specs.Answers.{Counts, answerOf}
 use Rattle.cnf.specs.Piece.{leastRoom, fitting, flat, piece, refusal, answer, buffer, written, bufferAfter}
+use Rattle.cnf.proofs.PieceLaws.{no-refusal}
+use Rattle.pieces.proofs.Joined.{flat-append, all-clauses}
 use Rattle.text.specs.declared.Texted.{Texted}
 use Rattle.text.specs.Texts.{texted, withTexts}
 use Rattle.text.specs.Dimacs.{numberText, numbersText}
@@ -30,31 +32,8 @@ use Rattle.text.proofs.AllTexts.{texts-counted, numbers-are, numbers-append}
 use Rattle.outputs.specs.declared.dimacs.Piece.{Piece}
 use Rattle.outputs.specs.Dimacs.{clauseText, nextPiece, PieceText}
 use Rattle.outputs.proofs.PrintingLaws.{written-within}
-use Rattle.outputs.proofs.ShortClauses.{Short, clauses-short}
-
-drop-short : (i : ℕ) (cs : List Clause) → Short cs → Short (drop i cs)
-drop-short zero cs h = h
-drop-short (suc i) [] h = tt
-drop-short (suc i) (c ∷ cs) h = drop-short i cs (h .1)
-
-some-fits : (room : ℕ) (cs : List Clause) → leastRoom ≤ room → 0 < length cs → Short cs → 0 < length (fitting room cs)
-unfolding fitting
-some-fits room [] h l s = absurd (omega arith)
-some-fits room (c ∷ cs) h l s = rw (lt-ltb (length c) room (omega (arith, s .0))) (omega arith)
-
-pub piece-some : (J : Job) → fit J ≡ true → (c room : ℕ) → 1 ≤ c → c ≤ length (clauses J) → leastRoom ≤ room → 0 < length (piece J c room)
-piece-some J h c room low high wide =
-    some-fits room (drop (c - 1) (clauses J)) wide (omega (arith, length-drop (c - 1) (clauses J))) (drop-short (c - 1) (clauses J) (clauses-short J h))
 
 -- ---- the text of a piece
-
--- two lists of clauses, one behind the other
-flat-append : (a b : List Clause) → flat (a ++ b) ≡ flat a ++ flat b
-unfolding flat
-flat-append [] b = refl
-flat-append (c ∷ cs) b =
-    let line : List ℤ = map signed c ++ (pos 0 ∷ []) in
-    ap (λ l. line ++ l) (flat-append cs b) ∙ sym (append-assoc line (flat cs) (flat b))
 
 -- pieces joined have the texts joined
 pub clause-text-append : (a b : List Clause) → clauseText (a ++ b) ≡ clauseText a ++ clauseText b
@@ -124,20 +103,26 @@ piece-held {cs} {old} {new} {p} h = written-within old new (clauseText cs) (p .l
 
 -- ---- the loop over the pieces: each has a clause, and no more than are left
 
-fitting-most : (room : ℕ) (cs : List Clause) → length (fitting room cs) ≤ length cs
-unfolding fitting
-fitting-most room [] = omega arith
-fitting-most room (c ∷ cs) = go (ltb (length c) room) (fitting-most (room - (length c + 1)) cs)
+-- both ways of a branch are the same
+cond-same : {T : Type 0} (b : Bool) (x y : T) → x ≡ y → cond b x y ≡ x
+cond-same true x y e = refl
+cond-same false x y e = sym e
+
+-- the clause call refuses no piece but one past the last clause, which is empty
+pub next-is : (J : Job) → fit J ≡ true → (c room : ℕ) → 1 ≤ c → leastRoom ≤ room → nextPiece J c room ≡ piece J c room
+unfolding nextPiece fitting
+next-is J h c room low wide = go (decLt (length (clauses J)) c)
   where
-    go : (b : Bool) → length (fitting (room - (length c + 1)) cs) ≤ length cs → length (cond b (c ∷ fitting (room - (length c + 1)) cs) []) ≤ suc (length cs)
-    go true h = omega arith
-    go false h = omega arith
+    go : Dec (length (clauses J) < c) → cond (eqb (refusal J c room) 0) (piece J c room) [] ≡ piece J c room
+    go (yes past) = cond-same (eqb (refusal J c room) 0) (piece J c room) []
+        (ap (fitting room) (drop-of-length-le (clauses J) {i = c - 1} (omega arith)))
+    go (no here) = rw (no-refusal J c room h low (omega arith) wide)
 
 pub next-some : (J : Job) → fit J ≡ true → (c room : ℕ) → 1 ≤ c → c ≤ length (clauses J) → leastRoom ≤ room
     → (0 < length (nextPiece J c room)) × (c + length (nextPiece J c room) ≤ length (clauses J) + 1)
-unfolding nextPiece refusal
 next-some J h c room low high wide =
-    let some = piece-some J h c room low high wide in
-    let most = fitting-most room (drop (c - 1) (clauses J)) in
-    let left = length-drop (c - 1) (clauses J) in
-    rw (h, within-is 1 (length (clauses J)) c low high, le-ltb room leastRoom wide) (some, omega arith)
+    let all = all-clauses J h in
+    let some = all .never-empty c room (record { first = low; last = high; wide = wide }) in
+    let behind = drop (c - 1 + length (piece J c room)) (clauses J) in
+    let parts = ap length (all .beginning c room) ∙ length-append (piece J c room) behind in
+    rw (next-is J h c room low wide) (some, omega (arith, parts, length-drop (c - 1) (clauses J)))

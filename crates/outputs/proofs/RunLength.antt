@@ -1,5 +1,5 @@
 -- The lines of a run that was read off go into the room for them: a bit is one digit, and the table is within the limits.
-use mathlib.Core.Path.{_≡_, sym, ap, _∙_}
+use mathlib.Core.Path.{_≡_, ap, _∙_}
 use mathlib.Core.Bool.{Bool, true, false}
 use mathlib.Core.List.{List, [], _∷_, _++_, map}
 use Prim.Native.Nat.{ℕ, suc, _+_, _*_, _≤_, _<_}
@@ -18,7 +18,7 @@ use Rattle.job.specs.Satisfaction.{valueAt}
 use Rattle.job.specs.ReadOff.{byte, stateRead, runRead, turnByte, group, groupLength, runBytes}
 use Rattle.job.specs.RunToValues.{groupByte}
 use Rattle.job.specs.Fitness.{fit}
-use Rattle.job.proofs.FitnessLaws.{Sizes, fit-sizes}
+use Rattle.job.proofs.FitnessLaws.{fit-sizes}
 use Rattle.readoff.proofs.ReadingLaws.{state-at, length-group}
 use Rattle.text.specs.RunText.{runLine}
 use Rattle.text.proofs.LengthLaws.{each-length, line-length}

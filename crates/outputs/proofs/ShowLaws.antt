@@ -2,7 +2,7 @@
 use mathlib.Core.Path.{_≡_, refl, sym, ap, _∙_}
 use mathlib.Core.Bool.{Bool, true, false, _||_, cond}
 use mathlib.Core.List.{List}
-use Prim.Native.Nat.{ℕ, suc, _+_, _≤_, _<_}
+use Prim.Native.Nat.{ℕ, suc, _≤_, _<_}
 use native.Mathlib.Omega.{arith}
 use borrow.Author.Tests.{lt-ltb, le-ltb}
 use lib.Dec.{ltb}
@@ -13,7 +13,7 @@ use Rattle.lists.proofs.Logic.{or-right}
 use Rattle.job.specs.declared.Job.{Job}
 use Rattle.job.specs.declared.Program.{Program}
 use Rattle.job.specs.declared.Refusal.{Refusal}
-use Rattle.job.specs.Answers.{Answer, gives, refuses}
+use Rattle.job.specs.Answers.{gives}
 use Rattle.job.specs.Table.{r}
 use Rattle.job.specs.Numbering.{total}
 use Rattle.job.specs.Fitness.{fit}
@@ -22,7 +22,7 @@ use Rattle.job.proofs.FitnessLaws.{fit-sizes}
 use Rattle.reply.specs.declared.Checked.{Checked}
 use Rattle.reply.specs.declared.Checked.the-variants.{Accepted, Refused}
 use Rattle.reply.specs.Answers.{outcome}
-use Rattle.reply.specs.Check.{Outcome, accepted, checked}
+use Rattle.reply.specs.Check.{checked}
 use Rattle.readoff.specs.declared.Told.{Told}
 use Rattle.readoff.specs.declared.Told.the-variants.{Written, Refused as Denied}
 use Rattle.readoff.specs.Answers.{answerOf}

@@ -1,8 +1,8 @@
--- An accepted text gives a fit table, and so demand 3 holds of it: `accepted-fit` and `accepted-accurate`, at the end.
+-- An accepted text gives a fit table: `accepted-fit`, at the end. So what is claimed of fit tables holds of it (crate claims).
 use mathlib.Core.Path.{_≡_, subst}
 use mathlib.Core.Bool.{true, false}
 use mathlib.Core.List.{List, [], _∷_}
-use Prim.Native.Nat.{ℕ, _+_, _*_}
+use Prim.Native.Nat.{ℕ, _+_, _*_, _<_}
 use native.Mathlib.Omega.{arith}
 use borrow.Author.Tests.{le-leb, leb-false, eqb-false}
 use lib.Dec.{eqb, leb, ltb}
@@ -10,14 +10,14 @@ use lib.ListN.{drop, length}
 use Rattle.lists.proofs.TestLaws.{pass}
 use Rattle.job.specs.Limits.{maxLemmas, maxNames}
 use Rattle.job.specs.Fitness.{firstOf, bothCritical, programFits, fit}
-use Rattle.job.specs.Accuracy.{Accurate}
-use Rattle.job.proofs.Accuracy.{accuracy}
 use Rattle.job.specs.declared.Job.{Job}
 use Rattle.job.specs.declared.Program.{Program}
 use Rattle.scan.specs.Lines.{Row, lines}
 use Rattle.fields.specs.Fields.{wholeLine}
 use Rattle.fields.specs.declared.Field.{Field}
 use Rattle.fields.specs.declared.Field.the-variants.{Read, No}
+use Rattle.items.specs.declared.Named.{Named}
+use Rattle.items.specs.declared.Named.the-variants.{Item, Unknown}
 use Rattle.program.specs.Program.{programOf}
 use Rattle.program.specs.declared.Draft.{Draft}
 use Rattle.program.specs.declared.End.{End}
@@ -27,7 +27,7 @@ use Rattle.program.proofs.DraftFits.{Drafted, reached-drafted}
 use Rattle.program.proofs.ReachedLaws.{Kept as DraftKept}
 use Rattle.parse.specs.Answers.{withoutLemmas}
 use Rattle.parse.specs.Labels.{link, atLemmas}
-use Rattle.parse.specs.Lemmas.{words, bare, negated, itemOf, signed, lemma, whole, lemmaLine, lemmaLines}
+use Rattle.parse.specs.Lemmas.{words, bare, negated, itemIn, signed, lemma, whole, lemmaLine, lemmaLines}
 use Rattle.parse.specs.Lemmas.{named as namedIn}
 use Rattle.parse.specs.Reading.{fromLemmas, reading}
 use Rattle.parse.specs.declared.Verdict.{Verdict}
@@ -35,7 +35,7 @@ use Rattle.parse.specs.declared.Verdict.the-variants.{Accepted}
 use Rattle.parse.specs.declared.Reading.{Reading}
 use Rattle.parse.proofs.AnswerLaws.{Holds, pick-holds, then-holds, holds-of}
 use Rattle.parse.proofs.LabelLaws.{link-steady, started-holds}
-use Rattle.parse.proofs.LemmaLaws.{item-most}
+use Rattle.parse.proofs.LemmaLaws.{OneOf, item-one}
 use Rattle.parse.proofs.LinkFits.{Linking, link-linked, steady-is, linked-fits}
 use Rattle.parse.proofs.LinkFits.{Kept as LinkKept}
 use Rattle.parse.proofs.LemmaFits.{Entered, Open, none-entered, entered-fits, opened, named, closed-entered, signed-fits}
@@ -81,18 +81,25 @@ lemma-ready : (j : Job) (n k : ℕ) (ws : List (List ℕ)) → Within k j → Ho
 unfolding lemma namedIn
 lemma-ready j n k [] W =
     pick-holds Ready (eqb k 0) _ _ (λ _. tt)
-    (λ e. record { program = W .program; lemmas = closed-entered (items j) (j .lengths) (j .items) (j .lemmas) k (W .names) (eqb-false k 0 e) })
-lemma-ready j n k (w ∷ ws) W =
-    let i = itemOf j (bare w) in
-    let most = item-most (j .labels) (j .names) (j .program .steps) (j .program .variables) (bare w) in
-    then-holds Ready (Within (k + 1)) _ _
-    (pick-holds (Within (k + 1)) (leb maxNames k) _ _ (λ _. tt)
-    (λ l. pick-holds (Within (k + 1)) (eqb i 0) _ _ (λ _. tt)
     (λ e. record {
       program = W .program;
-      names = named (items j) (j .lengths) (j .items) (j .lemmas) k (W .names) (signed (negated w) i) (leb-false maxNames k l) (signed-fits (items j) i (negated w) (eqb-false i 0 e) most);
-    })))
+      lemmas = closed-entered (items j) (j .lengths) (j .items) (j .lemmas) k (W .names) (eqb-false k 0 e);
+    })
+lemma-ready j n k (w ∷ ws) W =
+    then-holds Ready (Within (k + 1)) _ _
+    (pick-holds (Within (k + 1)) (leb maxNames k) _ _ (λ _. tt)
+    (λ l. name (leb-false maxNames k l) (itemIn j (bare w)) (item-one j (bare w))))
     (λ e h. lemma-ready e n (k + 1) ws h)
+  where
+    name : k < maxNames → (x : Named) → OneOf (items j) x → Holds (Within (k + 1)) (namedIn j n k (negated w) x)
+    name l (Item i) h =
+        let z : i ≡ 0 → ⊥ = λ e. omega (arith, h .0) in
+        let fits = signed-fits (items j) i (negated w) z (h .1) in
+        record {
+          program = W .program;
+          names = named (items j) (j .lengths) (j .items) (j .lemmas) k (W .names) (signed (negated w) i) l fits;
+        }
+    name l Unknown h = tt
 
 whole-ready : (f : Field) (n : ℕ) (r : Reading) → Holds Ready r → Holds Ready (whole f n r)
 unfolding whole
@@ -127,7 +134,3 @@ accepted-fit text e = ready-fits (reading text .job) (holds-of Ready (reading te
 -- the table has a place for each name of each lemma
 pub accepted-items : (text : List ℕ) → reading text .verdict ≡ Accepted → length (reading text .job .items) ≡ maxLemmas * maxNames
 accepted-items text e = holds-of Ready (reading text) (reading-ready text) e .lemmas .items-size
-
--- demand 3 of texts: its clauses and its runs, of every text that is accepted
-pub accepted-accurate : (text : List ℕ) → reading text .verdict ≡ Accepted → Accurate (reading text .job)
-accepted-accurate text e = accuracy (reading text .job) (accepted-fit text e)

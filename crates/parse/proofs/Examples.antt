@@ -20,6 +20,7 @@ use Rattle.lines.specs.FirstLine.{firstLine, numberAt, valueOf}
 use Rattle.lines.specs.FirstLine.{then as thenFirst}
 use Rattle.lines.specs.StepLine.{fresh, bitOf, elseLine, endLine, gotoLine, testLine, kindLine, stepLine}
 use Rattle.lines.specs.StepLine.{then as thenStep}
+use Rattle.items.specs.Items.{namedIn}
 use Rattle.program.specs.Draft.{blank, mentionAt, processOf, otherEnd, enter, addStep}
 use Rattle.program.specs.ProgramLine.{isLemmas, isComment, stepped, programLine}
 use Rattle.program.specs.ProgramLine.{pick as pickLined, whole as wholeProgramLine}
@@ -27,12 +28,12 @@ use Rattle.program.specs.Program.{follow, program, opened, fromLine1, programOf
 use Rattle.program.specs.Program.{whole as wholeLine1}
 use Rattle.parse.specs.Answers.{withoutLemmas, by, refusal}
 use Rattle.parse.specs.Labels.{targetOf, aim, enterTo, enterOther, on, linkStep, link, started, atLemmas}
-use Rattle.parse.specs.Lemmas.{filled, words, bare, itemIn, named, lemma, whole, lemmaLine, lemmaLines}
+use Rattle.parse.specs.Lemmas.{filled, words, bare, named, lemma, whole, lemmaLine, lemmaLines}
 use Rattle.parse.specs.Reading.{fromLemmas, reading}
 use Rattle.parse.specs.declared.Verdict.{Verdict}
 use Rattle.parse.specs.declared.Verdict.the-variants.{Accepted}
 
-unfoldable bytes : String → List ℕ
+unfoldable pub bytes : String → List ℕ
 bytes end = []
 bytes (c then cs) = code c ∷ bytes cs
 
@@ -40,7 +41,7 @@ unfoldable verdict : String → Verdict
 verdict text = reading (bytes text) .verdict
 
 -- 01, 'A job in full'
-abbrev oneBit : String
+abbrev pub oneBit : String
 oneBit = "bound 1\n~ one bit\nA0 a=1 goto A0\nB0 maybe goto B0\nlemmas\n"
 
 -- its table
@@ -57,7 +58,7 @@ table : let j = reading (bytes oneBit) .job in
 unfolding bytes verdict every all within each passing first firstOf bothCritical cut upTo allOf starts alnum headed rows lines entryIs lookup wordField fixedField
     bitField rangeField endField wholeLine firstLine numberAt valueOf thenFirst fresh bitOf elseLine endLine gotoLine testLine kindLine stepLine thenStep
     blank mentionAt processOf otherEnd enter addStep isLemmas isComment stepped programLine pickLined wholeProgramLine follow program opened fromLine1
-    programOf wholeLine1 withoutLemmas by targetOf aim enterTo enterOther on linkStep link started atLemmas filled words bare itemIn named lemma whole
+    programOf wholeLine1 withoutLemmas by targetOf aim enterTo enterOther on linkStep link started atLemmas filled words bare namedIn named lemma whole
     lemmaLine lemmaLines fromLemmas reading
 table = (refl, refl, refl, refl, refl, refl, refl, refl, refl, refl, refl)
 
@@ -66,7 +67,7 @@ items : take 4 (reading (bytes "bound 1\n~ one bit\nA0 a=1 goto A0\nB0 maybe got
 unfolding bytes verdict every all within each passing first firstOf bothCritical cut upTo allOf starts alnum headed rows lines entryIs lookup wordField fixedField
     bitField rangeField endField wholeLine firstLine numberAt valueOf thenFirst fresh bitOf elseLine endLine gotoLine testLine kindLine stepLine thenStep
     blank mentionAt processOf otherEnd enter addStep isLemmas isComment stepped programLine pickLined wholeProgramLine follow program opened fromLine1
-    programOf wholeLine1 withoutLemmas by targetOf aim enterTo enterOther on linkStep link started atLemmas filled words bare itemIn named lemma whole
+    programOf wholeLine1 withoutLemmas by targetOf aim enterTo enterOther on linkStep link started atLemmas filled words bare namedIn named lemma whole
     lemmaLine lemmaLines fromLemmas reading
 items = refl
 
@@ -115,6 +116,6 @@ as-told : map (λ (c : String × Verdict). verdict (c .0)) refusals ≡ map (λ 
 unfolding bytes verdict every all within each passing first firstOf bothCritical cut upTo allOf starts alnum headed rows lines entryIs lookup wordField fixedField
     bitField rangeField endField wholeLine firstLine numberAt valueOf thenFirst fresh bitOf elseLine endLine gotoLine testLine kindLine stepLine thenStep
     blank mentionAt processOf otherEnd enter addStep isLemmas isComment stepped programLine pickLined wholeProgramLine follow program opened fromLine1
-    programOf wholeLine1 withoutLemmas by targetOf aim enterTo enterOther on linkStep link started atLemmas filled words bare itemIn named lemma whole
+    programOf wholeLine1 withoutLemmas by targetOf aim enterTo enterOther on linkStep link started atLemmas filled words bare namedIn named lemma whole
     lemmaLine lemmaLines fromLemmas reading
 as-told = refl

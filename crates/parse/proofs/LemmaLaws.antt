@@ -10,7 +10,7 @@ use borrow.Author.Tests.{ne-eqb, le-leb, lt-leb}
 use lib.Dec.{eqb, ltb, leb, lit<}
 use lib.IntN.{ℤ, pos, negℤ, _-ℤ_, +ℤ-idl}
 use lib.ListN.{length, getD, drop, take, drop-of-length-le}
-use lib.Seq.{drop-cons, drop-drop, slice, slice-cons, length-slice, take-all}
+use lib.Seq.{drop-cons, drop-drop, take-all}
 use mir.Syntax.{w16}
 use mir.Val.{SFits, toZ, ofZ}
 use mir.ValLaws.{toZ-pos, toZ-ofZ}
@@ -18,8 +18,7 @@ use Rattle.lists.specs.Rows.{num}
 use Rattle.lists.specs.Tests.{within}
 use Rattle.lists.specs.Pieces.{cut, upTo, starts}
 use Rattle.lists.proofs.PieceLaws.{length-upTo, take-upTo, drop-upTo, cut-all, cut-first}
-use Rattle.lists.proofs.TestLaws.{within-under, within-over, within-is}
-use Rattle.job.specs.Limits.{maxLemmas, maxNames}
+use Rattle.job.specs.Limits.{maxSteps, maxLemmas, maxNames}
 use Rattle.job.specs.declared.Program.{Program}
 use Rattle.job.specs.declared.Job.{Job}
 use Rattle.scan.specs.Bytes.{wordAt}
@@ -28,12 +27,19 @@ use Rattle.scan.specs.Names.{lookup}
 use Rattle.scan.specs.declared.Found.{Found}
 use Rattle.scan.specs.declared.Found.the-variants.{At, Nothing}
 use Rattle.scan.proofs.NameLaws.{lookup-below}
+use Rattle.scan.proofs.WordLaws.{word-fits}
 use Rattle.scan.proofs.LineLaws.{lines-at}
 use Rattle.fields.specs.Fields.{numberOf, wholeLine}
 use Rattle.fields.specs.declared.Field.{Field}
 use Rattle.fields.specs.declared.Field.the-variants.{Read, No}
+use Rattle.items.specs.Items.{pickNamed, namedAt, namedIn, itemField}
+use Rattle.items.specs.declared.Name.{Name}
+use Rattle.items.specs.declared.Named.{Named}
+use Rattle.items.specs.declared.Named.the-variants.{Item, Unknown}
+use Rattle.items.proofs.ItemLaws.{in-limits}
 use Rattle.parse.specs.Answers.{refuse, accept, then, by}
-use Rattle.parse.specs.Lemmas.{word, filled, words, bare, negated, itemAt, itemIn, itemOf, signed, withItem, closed, named, lemma, whole, lemmaLine, lemmaLines}
+use Rattle.parse.specs.Lemmas.{word, filled, words, bare, negated, itemIn, signed, withItem, closed, named, lemma}
+use Rattle.parse.specs.Lemmas.{whole, lemmaLine, lemmaLines}
 use Rattle.parse.specs.declared.Reading.{Reading}
 use Rattle.parse.proofs.AnswerLaws.{Holds, pick-holds, then-holds}
 
@@ -88,7 +94,8 @@ word-first xs some = go (decLt (length (upTo 32 xs)) (length xs))
         let none = drop-of-length-le xs {i = length (upTo 32 xs)} (omega arith) in
         ap filled (cut-all 32 xs all) ∙ word-on xs [] (omega arith) ∙ rw (none, same)
 
-pub words-word : (s : List ℕ) (at e : ℕ) → at < length s → (getD s at 0 ≡ 32 → ⊥) → e ≡ at + length (wordAt 32 s at) → words (drop at s) ≡ wordAt 32 s at ∷ words (drop e s)
+pub words-word : (s : List ℕ) (at e : ℕ) → at < length s → (getD s at 0 ≡ 32 → ⊥) → e ≡ at + length (wordAt 32 s at)
+    → words (drop at s) ≡ wordAt 32 s at ∷ words (drop e s)
 words-word s at e l h k =
     let d : drop at s ≡ getD s at 0 ∷ drop (suc at) s = drop-cons s at 0 l in
     word-first (drop at s) (rw d (up-some (getD s at 0) (drop (suc at) s) h))
@@ -98,46 +105,74 @@ pub words-end : (s : List ℕ) (at : ℕ) → length s ≤ at → words (drop at
 unfolding words filled cut
 words-end s at h = ap words (drop-of-length-le s {i = at} h)
 
--- ---- a word of a lemma
+-- ---- a name of a lemma
 
-module _ (s : List ℕ) (at e : ℕ) (l : at < e) (k : e ≤ length s) where
-  pub bare-part : (from : ℕ) → from ≡ cond (eqb (num s at) 126) (at + 1) at → bare (slice at e s) ≡ slice from e s
-  unfolding bare
-  bare-part from h = ap bare (slice-cons at e s 0 l k) ∙ go (eqb (num s at) 126) ∙ ap (λ (n : ℕ). slice n e s) (sym h)
-    where
-      go : (t : Bool) → cond t (slice (suc at) e s) (num s at ∷ slice (suc at) e s) ≡ slice (cond t (at + 1) at) e s
-      go true = ap (λ (n : ℕ). slice n e s) (sym (add-one at))
-      go false = sym (slice-cons at e s 0 l k)
+-- the byte at at begins a word
+module _ (s : List ℕ) (at : ℕ) (l : at < length s) (k : num s at ≡ 32 → ⊥) where
+  word-cons : wordAt 32 s at ≡ num s at ∷ wordAt 32 s (suc at)
+  unfolding upTo
+  word-cons = rw (drop-cons s at 0 l, ne-eqb (getD s at 0) 32 k)
 
-  pub sign-part : negated (slice at e s) ≡ eqb (num s at) 126
+  pub sign-word : negated (wordAt 32 s at) ≡ eqb (num s at) 126
   unfolding starts
-  sign-part = ap negated (slice-cons at e s 0 l k) ∙ and-true (eqb (num s at) 126)
+  sign-word = ap negated word-cons ∙ and-true (eqb (num s at) 126)
 
-module _ (labels names : List ℕ) (m n : ℕ) (s : List ℕ) (from to : ℕ) (k : to ≤ length s) where
-  pub item-short : to ≤ from → 0 ≡ itemIn labels names m n (slice from to s)
-  unfolding itemIn
-  item-short h = rw (within-under 1 4 (length (slice from to s)) (omega (arith, length-slice from to s k)))
+  pub word-ends : (e : ℕ) → e ≡ at + length (wordAt 32 s at) → (at < e) × (e ≤ length s)
+  word-ends e h = (omega (arith, h, ap (λ (w : List ℕ). length w) word-cons), omega (arith, h, word-fits 32 s at e h))
 
-  pub item-long : 4 < to - from → 0 ≡ itemIn labels names m n (slice from to s)
-  unfolding itemIn
-  item-long h = rw (within-over 1 4 (length (slice from to s)) (omega (arith, length-slice from to s k)))
+  -- behind its `~`, if there is one, stands the name, and both end at one place
+  module _ (from : ℕ) (h : from ≡ cond (eqb (num s at) 126) (at + 1) at) where
+    bare-word : wordAt 32 s from ≡ bare (wordAt 32 s at)
+    unfolding bare
+    bare-word = ap (wordAt 32 s) h ∙ go (eqb (num s at) 126) ∙ sym (ap bare word-cons)
+      where
+        go : (t : Bool) → wordAt 32 s (cond t (at + 1) at) ≡ cond t (wordAt 32 s (suc at)) (num s at ∷ wordAt 32 s (suc at))
+        go true = ap (wordAt 32 s) (add-one at)
+        go false = word-cons
 
-  pub item-known : from < to → to - from ≤ 4
-      → itemAt (lookup labels m (slice from to s)) (lookup names n (slice from to s)) m ≡ itemIn labels names m n (slice from to s)
-  unfolding itemIn
-  item-known h l =
-      let size = length-slice from to s k in
-      rw (within-is 1 4 (length (slice from to s)) (omega (arith, size)) (omega (arith, size)))
+    bare-end : from + length (wordAt 32 s from) ≡ at + length (wordAt 32 s at)
+    bare-end = ap (λ (n : ℕ). n + length (wordAt 32 s n)) h ∙ go (eqb (num s at) 126)
+      where
+        go : (t : Bool) → cond t (at + 1) at + length (wordAt 32 s (cond t (at + 1) at)) ≡ at + length (wordAt 32 s at)
+        go true = omega (arith, ap (λ (n : ℕ). length (wordAt 32 s n)) (add-one at), ap (λ (w : List ℕ). length w) word-cons)
+        go false = refl
 
-pub item-most : (labels names : List ℕ) (m n : ℕ) (w : List ℕ) → itemIn labels names m n w ≤ m + n
-unfolding itemIn
-item-most labels names m n w = go (within 1 4 (length w)) (lookup labels m w) (lookup names n w) refl refl
+    -- what the field is there, in a table within the limits
+    module _ (j : Job) (line : ℕ) (r : Name) (e : r ≡ itemField (j .labels) (j .names) (j .program .steps) (j .program .variables) s
+        (record { line = line; column = from })) where
+      pub name-is : j .program .steps ≤ maxSteps → j .program .variables ≤ maxSteps → r .named ≡ itemIn j (bare (wordAt 32 s at))
+      unfolding itemField
+      name-is m n =
+          ap (λ (y : Name). y .named) e
+          ∙ in-limits (j .labels) (j .names) (j .program .steps) (j .program .variables) (wordAt 32 s from) m n
+          ∙ ap (namedIn (j .labels) (j .names) (j .program .steps) (j .program .variables)) bare-word
+
+      pub name-end : r .at .column ≡ at + length (wordAt 32 s at)
+      unfolding itemField
+      name-end = ap (λ (y : Name). y .at .column) e ∙ bare-end
+
+-- an item that is named is one of w
+abbrev pub OneOf : ℕ → Named → Type 0
+OneOf w (Item i) = (0 < i) × (i ≤ w)
+OneOf w Unknown = Unit {0}
+
+pub item-one : (j : Job) (w : List ℕ) → OneOf (j .program .steps + j .program .variables) (itemIn j w)
+unfolding namedIn
+item-one j w =
+    let m = j .program .steps in
+    let n = j .program .variables in
+    go m n (within 1 4 (length w)) (lookup (j .labels) m w) (lookup (j .names) n w)
+    (lookup-below (j .labels) m w) (lookup-below (j .names) n w)
   where
-    go : (b : Bool) (f g : Found) → lookup labels m w ≡ f → lookup names n w ≡ g → cond b (itemAt f g m) 0 ≤ m + n
-    go false f g p q = omega arith
-    go true (At i) g p q = omega (arith, lookup-below labels m w i p)
-    go true Nothing (At i) p q = omega (arith, lookup-below names n w i q)
-    go true Nothing Nothing p q = omega arith
+    go : (m n : ℕ) (b : Bool) (f g : Found) → ((i : ℕ) → f ≡ At i → i < m) → ((i : ℕ) → g ≡ At i → i < n)
+        → OneOf (m + n) (pickNamed b (namedAt f g m) Unknown)
+    go m n false f g p q = tt
+    go m n true (At i) g p q = (omega arith, omega (arith, p i refl))
+    go m n true Nothing (At i) p q = (omega arith, omega (arith, q i refl))
+    go m n true Nothing Nothing p q = tt
+
+pub item-within : (j : Job) (w : List ℕ) (i : ℕ) → itemIn j w ≡ Item i → (0 < i) × (i ≤ j .program .steps + j .program .variables)
+item-within j w i e = subst (OneOf (j .program .steps + j .program .variables)) e (item-one j w)
 
 -- ---- a lemma, name by name
 
@@ -146,14 +181,14 @@ module _ (j : Job) (n k : ℕ) (w : List ℕ) (ws : List (List ℕ)) where
   unfolding lemma by
   lemma-44 h = rw (le-leb maxNames k h)
 
-  pub lemma-43 : k < maxNames → itemOf j (bare w) ≡ 0 → refuse 43 n ≡ lemma j n k (w ∷ ws)
+  pub lemma-43 : k < maxNames → itemIn j (bare w) ≡ Unknown → refuse 43 n ≡ lemma j n k (w ∷ ws)
   unfolding lemma by named
   lemma-43 h e = rw (lt-leb maxNames k h, e)
 
-  pub lemma-on : (i : ℕ) → k < maxNames → itemOf j (bare w) ≡ i → (i ≡ 0 → ⊥)
+  pub lemma-on : (i : ℕ) → k < maxNames → itemIn j (bare w) ≡ Item i
       → lemma j n k (w ∷ ws) ≡ lemma (withItem j k (signed (negated w) i)) n (k + 1) ws
   unfolding lemma by named
-  lemma-on i h e z = rw (lt-leb maxNames k h, e, ne-eqb i 0 z)
+  lemma-on i h e = rw (lt-leb maxNames k h, e)
 
 pub lemma-42 : (j : Job) (n : ℕ) → refuse 42 n ≡ lemma j n 0 []
 unfolding lemma
@@ -180,7 +215,8 @@ lines-none j n = refl
 
 pub lines-turn : (j : Job) (n : ℕ) (text : List ℕ) (at e : ℕ) → at < length text → e ≡ at + length (wordAt 10 text at)
     → lemmaLines j n (lines (drop at text))
-    ≡ then (lemmaLine j (row (take (e - at) (drop at text)) (ltb e (length text))) (n + 1)) λ x. lemmaLines x (n + 1) (lines (drop (e + 1) text))
+    ≡ then (lemmaLine j (row (take (e - at) (drop at text)) (ltb e (length text))) (n + 1))
+    λ x. lemmaLines x (n + 1) (lines (drop (e + 1) text))
 unfolding lemmaLines
 lines-turn j n text at e l k = ap (lemmaLines j n) (lines-at text at e l k)
 
@@ -195,12 +231,17 @@ module _ (P : Program) where
   whole-same Read n r h = h
   whole-same (No k) n r h = tt
 
+  named-same : (j : Job) (n k : ℕ) (negative : Bool) (x : Named) → j .program ≡ P → Holds Same (named j n k negative x)
+  unfolding named
+  named-same j n k negative (Item i) e = e
+  named-same j n k negative Unknown e = tt
+
   lemma-same : (j : Job) (n k : ℕ) (ws : List (List ℕ)) → j .program ≡ P → Holds Same (lemma j n k ws)
-  unfolding lemma named
+  unfolding lemma
   lemma-same j n k [] e = pick-holds Same (eqb k 0) _ _ (λ _. tt) (λ _. e)
   lemma-same j n k (w ∷ ws) e =
       then-holds Same Same _ _
-      (pick-holds Same (leb maxNames k) _ _ (λ _. tt) (λ _. pick-holds Same (eqb (itemOf j (bare w)) 0) _ _ (λ _. tt) (λ _. e)))
+      (pick-holds Same (leb maxNames k) _ _ (λ _. tt) (λ _. named-same j n k (negated w) (itemIn j (bare w)) e))
       (λ x h. lemma-same x n (k + 1) ws h)
 
   pub line-same : (j : Job) (l : Row) (n : ℕ) → j .program ≡ P → Holds Same (lemmaLine j l n)

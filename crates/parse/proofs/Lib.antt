@@ -7,3 +7,4 @@ pub mod LinkFits
 pub mod LemmaFits
 pub mod AcceptedFit
 pub mod Examples
+pub mod Listing

@@ -4,18 +4,17 @@ use mathlib.Core.Bool.{Bool, true, false, cond}
 use mathlib.Core.List.{List, [], _∷_}
 use lib.Dec.{eqb, leb}
 use lib.IntN.{ℤ, pos, negℤ}
-use lib.ListN.{length, set}
-use Rattle.lists.specs.Tests.{within}
+use lib.ListN.{set}
 use Rattle.lists.specs.Pieces.{Pieces, last, piece, cut, starts}
 use Rattle.job.specs.Limits.{maxLemmas, maxNames}
 use Rattle.job.specs.declared.Job.{Job}
 use Rattle.scan.specs.Lines.{Row}
-use Rattle.scan.specs.Names.{lookup}
-use Rattle.scan.specs.declared.Found.{Found}
-use Rattle.scan.specs.declared.Found.the-variants.{At, Nothing}
 use Rattle.fields.specs.Fields.{wholeLine}
 use Rattle.fields.specs.declared.Field.{Field}
 use Rattle.fields.specs.declared.Field.the-variants.{Read, No}
+use Rattle.items.specs.Items.{namedIn}
+use Rattle.items.specs.declared.Named.{Named}
+use Rattle.items.specs.declared.Named.the-variants.{Item, Unknown}
 use Rattle.parse.specs.Answers.{refuse, accept, then, pick}
 use Rattle.parse.specs.declared.Reading.{Reading}
 
@@ -44,18 +43,9 @@ bare (b ∷ bs) = cond (eqb b 126) bs (b ∷ bs)
 abbrev pub negated : List ℕ → Bool
 negated w = starts (126 ∷ []) w
 
--- 'item c is step c up to m, then variables'; 0 where there is no such name
-abbrev pub itemAt : Found → Found → ℕ → ℕ
-itemAt (At i) v m = i + 1
-itemAt Nothing (At i) m = m + i + 1
-itemAt Nothing Nothing m = 0
-
--- a name has 1 to 4 bytes
-unfoldable pub itemIn : List ℕ → List ℕ → ℕ → ℕ → List ℕ → ℕ
-itemIn labels names m n w = cond (within 1 4 (length w)) (itemAt (lookup labels m w) (lookup names n w) m) 0
-
-abbrev pub itemOf : Job → List ℕ → ℕ
-itemOf j w = itemIn (j .labels) (j .names) (j .program .steps) (j .program .variables) w
+-- what it names among the job's steps and variables
+abbrev pub itemIn : Job → List ℕ → Named
+itemIn j w = namedIn (j .labels) (j .names) (j .program .steps) (j .program .variables) w
 
 abbrev pub signed : Bool → ℕ → ℤ
 signed true i = negℤ (pos i)
@@ -85,16 +75,16 @@ closed j k = record {
   items = j .items;
 }
 
--- 43 'name unknown'
-unfoldable pub named : Job → ℕ → ℕ → ℤ → ℕ → Reading
-named j n k z i = pick (eqb i 0) (refuse 43 n) (accept (withItem j k z))
+-- the item is entered with its sign; 43 'name unknown'
+unfoldable pub named : Job → ℕ → ℕ → Bool → Named → Reading
+named j n k negative (Item i) = accept (withItem j k (signed negative i))
+named j n k negative Unknown = refuse 43 n
 
 -- the names from name k on: '44 comes before that name is looked up'; 42 'lemma empty'
 unfoldable pub lemma : Job → ℕ → ℕ → List (List ℕ) → Reading
 lemma j n k [] = pick (eqb k 0) (refuse 42 n) (accept (closed j k))
 lemma j n k (w ∷ ws) =
-    let i = itemOf j (bare w) in
-    then (pick (leb maxNames k) (refuse 44 n) (named j n k (signed (negated w) i) i)) λ e.
+    then (pick (leb maxNames k) (refuse 44 n) (named j n k (negated w) (itemIn j (bare w)))) λ e.
     lemma e n (k + 1) ws
 
 -- ---- all lemmas

@@ -13,9 +13,10 @@ ghost use Rattle.scan.specs.Lines.{row, lines};
 ghost use Rattle.scan.specs.Names.{lookup};
 ghost use Rattle.parse.specs.Answers.{answerOf, refusal as refusalOf, deny, withoutLemmas};
 ghost use Rattle.parse.specs.Labels.{numberOf, targetOf, aim as aimOf, enterTo, enterOther, linkStep, link as linkAll, atLemmas};
-ghost use Rattle.parse.specs.Lemmas.{itemIn, signed as signedItem, words, lemma, lemmaLine, lemmaLines};
+ghost use Rattle.parse.specs.Lemmas.{signed as signedItem, words, lemma, lemmaLine, lemmaLines};
 ghost use Rattle.parse.specs.Reading.{stop, readJob};
 use fields::Field;
+use items::Named;
 use job::Job;
 use job::Program;
 use job::Refusal;
@@ -279,36 +280,6 @@ fn bare_at(s: &[u8], at: usize) -> usize
     if s[at] == b'~' { at + 1 } else { at }
 }
 
-// The item of the name from from to to, of m steps and n variables, or 0.
-fn item_of<'a>(
-    labels: &'a [u8; 4 * Job::STEPS],
-    names: &'a [u8; 4 * Job::STEPS],
-    m: usize,
-    n: usize,
-    s: &[u8],
-    from: usize,
-    to: usize,
-) -> usize
-    requires { ⌜ (m ≤ maxSteps) × (n ≤ maxSteps) × (to ≤ length (now s)) ⌝ }
-    ensures { λ r. ⌜ r ≡ itemIn (now (labels .entry)) (now (names .entry)) m n (slice from to (now (s .entry))) ⌝ }
-{
-    if to <= from {
-        return 0;
-    }
-    if 4 < to - from {
-        return 0;
-    }
-    let f = scan::find(labels, m, s, from, to);
-    if let Found::At(i) = f {
-        return i + 1;
-    }
-    let g = scan::find(names, n, s, from, to);
-    let Found::At(i) = g else {
-        return 0;
-    };
-    m + i + 1
-}
-
 fn signed(neg: bool, i: usize) -> i16
     requires { ⌜ i ≤ 2 * maxSteps ⌝ }
     ensures { λ r. ⌜ r ≡ signedItem neg i ⌝ }
@@ -347,28 +318,28 @@ fn lemma_of(start: Job, s: &[u8], n: usize) -> Reading
             at += 1;
             continue;
         }
-        let e = scan::end_of(s, at, b' ');
         if Job::NAMES <= k {
             return refused(Reading::MANY_NAMES, n);
         }
         let from = bare_at(s, at);
-        let i = item_of(
+        let name = items::item_at(
             &j.labels,
             &j.names,
             j.program.steps,
             j.program.variables,
             s,
+            n,
             from,
-            e,
         );
-        if i == 0 {
+        let named = name.named;
+        let Named::Item(i) = named else {
             return refused(Reading::NAME_UNKNOWN, n);
-        }
+        };
         let z = signed(s[at] == b'~', i);
         let l = j.lemmas;
         j.items[l * Job::NAMES + k] = z;
         k += 1;
-        at = e;
+        at = name.at.column;
     }
     lemma_end(j, n, k)
 }

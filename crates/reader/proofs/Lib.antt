@@ -1,4 +1,4 @@
--- The walks that functions over a reader share.
+-- One law for every function that is lent a reader, and one for every plain function above it.
 pub mod Shapes
-pub mod ApartLaw
+pub mod LentLaw
 pub mod MadeLaw

@@ -1,12 +1,12 @@
-// One reader keeps the reply and the place in it. Each function over it is thin, since its proof is by hand: the reader is taken apart
-// and handed to one function with a slice and numbers. Others call those with plain parameters, which make a reader and ask it.
+// 'One reader keeps the reply and its place in it': a function that is lent the reader reads the next line or word and moves the place on
+// to its end. Each is thin, since its proof is by hand: one function with a slice and numbers does the reading. Above each stands one with
+// plain parameters, which makes a reader, lends it and gives the place where it then stands.
 ghost use mathlib.Core.Path.{_≡_};
-ghost use Prim.Native.Nat.{_+_};
-ghost use lib.ListN.{length};
-ghost use lib.Seq.{slice};
-ghost use Rattle.lists.specs.Pieces.{upTo};
 ghost use Rattle.tokens.specs.Numbers.{wordAt};
-ghost use Rattle.tokens.specs.Kinds.{kindOf};
+ghost use Rattle.reader.specs.Lines.{lineAt};
+use tokens::Kind;
+use tokens::Token;
+use tokens::Word;
 
 // The reply and the place in it.
 pub struct Reader<'a> {
@@ -14,55 +14,56 @@ pub struct Reader<'a> {
     pub at: usize,
 }
 
-// What `line` calls.
-fn line_from(s: &[u8], at: usize, to: usize) -> usize
-    ensures { λ r. ⌜ r ≡ at + length (upTo 10 (slice at to (now (s .entry)))) ⌝ }
-{
-    tokens::find_far(s, 10, at, to)
+// A line's kind, and where it ends: at its LF, or with the text.
+pub struct Line {
+    pub kind: Kind,
+    pub end: usize,
 }
 
-fn new<'a>(src: &'a [u8], at: usize) -> Reader<'a>
-    ensures { λ r. ⌜ (r .src ≡ src .entry) × (r .at ≡ at) ⌝ }
+// What `next_line` calls.
+fn line_from(s: &[u8], at: usize, to: usize) -> Line
+    ensures { λ r. ⌜ r ≡ lineAt (now (s .entry)) at to ⌝ }
 {
-    Reader { src, at }
+    let end = tokens::find_far(s, 10, at, to);
+    let kind = tokens::kind_at(s, at, end);
+    Line { kind, end }
 }
 
-// Where the line that starts here ends: at its LF, or with the text, which ends at to.
-fn line<'a>(r: Reader<'a>, to: usize) -> usize
-    ensures { λ e. ⌜ e ≡ r .entry .at + length (upTo 10 (slice (r .entry .at) to (now (r .entry .src)))) ⌝ }
+// The kind of the line that starts here, in a text that ends at to. The place moves to the line's end.
+fn next_line<'s, 'a>(r: &'s mut Reader<'a>, to: usize) -> Kind
+    ensures { λ k. ⌜ (k ≡ lineAt (now (now (r .entry) .src)) (now (r .entry) .at) to .kind)
+        × (now (r .exit) .src ≡ now (r .entry) .src)
+        × (now (r .exit) .at ≡ lineAt (now (now (r .entry) .src)) (now (r .entry) .at) to .end) ⌝ }
 {
-    line_from(r.src, r.at, to)
+    let line = line_from(r.src, r.at, to);
+    r.at = line.end;
+    line.kind
 }
 
-// The word that starts here, in a line that ends at to.
-fn word<'a>(r: Reader<'a>, to: usize) -> tokens::Word
-    ensures { λ w. ⌜ w ≡ wordAt (now (r .entry .src)) (r .entry .at) to ⌝ }
+// The word that starts here, in a line that ends at to. The place moves to the word's end.
+fn next_word<'s, 'a>(r: &'s mut Reader<'a>, to: usize) -> Token
+    ensures { λ t. ⌜ (t ≡ wordAt (now (now (r .entry) .src)) (now (r .entry) .at) to .token)
+        × (now (r .exit) .src ≡ now (r .entry) .src)
+        × (now (r .exit) .at ≡ wordAt (now (now (r .entry) .src)) (now (r .entry) .at) to .end) ⌝ }
 {
-    tokens::word_at(r.src, r.at, to)
-}
-
-// The kind of the line from here to to.
-fn kind<'a>(r: Reader<'a>, to: usize) -> tokens::Kind
-    ensures { λ k. ⌜ k ≡ kindOf (slice (r .entry .at) to (now (r .entry .src))) ⌝ }
-{
-    tokens::kind_at(r.src, r.at, to)
+    let word = tokens::word_at(r.src, r.at, to);
+    r.at = word.end;
+    word.token
 }
 
 // The same of the reply at a place.
-pub fn line_at(s: &[u8], at: usize, to: usize) -> usize
-    ensures { λ r. ⌜ r ≡ at + length (upTo 10 (slice at to (now (s .entry)))) ⌝ }
+pub fn line_at(s: &[u8], at: usize, to: usize) -> Line
+    ensures { λ r. ⌜ r ≡ lineAt (now (s .entry)) at to ⌝ }
 {
-    line(new(s, at), to)
+    let mut r = Reader { src: s, at };
+    let kind = next_line(&mut r, to);
+    Line { kind, end: r.at }
 }
 
-pub fn word_at(s: &[u8], at: usize, to: usize) -> tokens::Word
+pub fn word_at(s: &[u8], at: usize, to: usize) -> Word
     ensures { λ r. ⌜ r ≡ wordAt (now (s .entry)) at to ⌝ }
 {
-    word(new(s, at), to)
-}
-
-pub fn kind_at(s: &[u8], at: usize, to: usize) -> tokens::Kind
-    ensures { λ r. ⌜ r ≡ kindOf (slice at to (now (s .entry))) ⌝ }
-{
-    kind(new(s, at), to)
+    let mut r = Reader { src: s, at };
+    let token = next_word(&mut r, to);
+    Word { token, end: r.at }
 }

@@ -11,19 +11,23 @@ use Rattle.lists.specs.Rows.{each}
 use Rattle.lists.specs.Tests.{every, all, within}
 use Rattle.lists.specs.Places.{passing, first}
 use Rattle.lists.specs.Pieces.{cut, starts, is}
+use Rattle.lists.specs.Numerals.{digitsBelow, numeral}
+use Rattle.job.specs.declared.Literal.the-variants.{On, Off}
 use Rattle.job.specs.Table as table
 use Rattle.job.specs.Numbering as numbering
 use Rattle.job.specs.Exclusion as exclusion
 use Rattle.job.specs.Clauses as clauses
 use Rattle.job.specs.Fitness as fitness
 use Rattle.job.specs.Satisfaction as satisfaction
-use Rattle.job.specs.OneBit.{oneBit}
+use Rattle.job.specs.OneBit.{oneBit, reply}
 use Rattle.tokens.specs.Numbers.{front, decimal, allowed, unsigned, token}
 use Rattle.reply.specs.Said.{says}
 use Rattle.tokens.specs.Kinds.{satisfiable, unsatisfiable}
 use Rattle.reply.specs.Lines.{opening, sayIn, numbersIn, valueLineIn, valueLinesIn, closing}
 use Rattle.reply.specs.Reply.{Read, refusal, values, heardIn, valuesRead}
 use Rattle.reply.specs.Check.{accepted, refused, checked}
+use Rattle.reply.specs.Acceptance.{Lists, times}
+use Rattle.reply.specs.PlainReply.{signedNumeral, numbersFrom, plainReply}
 
 unfoldable bytes : String → List ℕ
 bytes end = []
@@ -43,6 +47,19 @@ given :
     × (read "c x\ns SATISFIABLE\nc\nv 1 2 -3 4 5 6 7\ncc\nv -8 -9 10 0\nc y\n" ≡ values (1 ∷ 1 ∷ 0 ∷ 1 ∷ 1 ∷ 1 ∷ 1 ∷ 0 ∷ 0 ∷ 1 ∷ []))
 unfolding bytes read each every within passing first cut starts is front decimal allowed unsigned token says opening sayIn numbersIn valueLineIn valueLinesIn closing heardIn valuesRead
 given = (refl, refl, refl)
+
+-- the plain reply of its values is that one line
+plain : plainReply reply ≡ bytes "s SATISFIABLE\nv 1 2 -3 4 5 6 7 -8 -9 10 0\n"
+unfolding bytes plainReply numbersFrom signedNumeral numeral digitsBelow
+plain = refl
+
+-- what a reply in 01's form lists, the last first: also a number past N, also a number twice
+listing :
+    Lists (bytes "s SATISFIABLE\nv 11 -1\nv 1 0\n") (On 0 ∷ Off 0 ∷ On 10 ∷ [])
+    × (times 0 (On 0 ∷ Off 0 ∷ On 10 ∷ []) ≡ 2)
+unfolding bytes every within cut starts is front decimal allowed unsigned token opening sayIn numbersIn valueLineIn valueLinesIn
+    closing heardIn times
+listing = (refl, refl)
 
 -- 61: the first line that is not `c`, and what is missing at the end
 opened :

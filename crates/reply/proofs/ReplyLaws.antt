@@ -1,15 +1,17 @@
 -- The values of a reply, or its refusal, from what was heard: one law for each way out of the code.
 use mathlib.Core.Path.{_≡_, refl, sym, ap, _∙_}
 use mathlib.Core.Bool.{Bool, true, false, cond}
+use mathlib.Core.Logic.{_⊎_, inl, inr}
 use mathlib.Core.List.{List, [], _++_}
-use Prim.Native.Nat.{ℕ, _+_, _-_, _≤_, _<_}
+use Prim.Native.Nat.{ℕ, suc, _+_, _-_, _≤_, _<_}
 use native.Mathlib.Omega.{arith}
 use native.Mathlib.Numerals.{add-one}
-use borrow.Author.Tests.{lt-ltb, le-ltb}
+use borrow.Author.Tests.{lt-ltb, le-ltb, ltb-false}
 use lib.Dec.{eqb, ltb}
 use lib.ListN.{length, drop}
 use lib.Seq.{drop-at, drop-append-add, drop-drop}
 use Rattle.lists.specs.Rows.{tab, num}
+use Rattle.lists.proofs.Logic.{split}
 use Rattle.lists.proofs.RowLaws.{length-tab, getD-tab, tab-same}
 use Rattle.lists.proofs.PlaceLaws.{first-most, first-same}
 use Rattle.job.specs.declared.Literal.{Literal}
@@ -94,7 +96,43 @@ module _ (N : ℕ) (work w : List ℕ) (h : Place) (H : Heard (List Literal)) (h
             let v : w′ ≡ tab N (λ y. truth (says ls y)) ++ drop N work = clean ∙ ap (λ (n : ℕ). cleaned n w) all ∙ same-values N work w ls m in
             rw (← t, le-ltb x N l, v)
 
--- ---- values that are read: as many as the variables, and 0 or 1
+-- ---- values that are read: the literals that were heard give them, none is missing
+
+pub record Complete (N : ℕ) (reply vs : List ℕ) : Type 0 where
+  pub listed : List Literal
+  pub heard : heardIn literals N [] reply ≡ whole listed
+  pub all : missing N (says listed) ≡ N
+  pub are : vs ≡ tab N (λ x. truth (says listed x))
+
+pub read-complete : (N : ℕ) (reply vs : List ℕ) → valuesRead N reply ≡ values vs → Complete N reply vs
+unfolding valuesRead
+read-complete N reply vs e = go (heardIn literals N [] reply) refl e
+  where
+    said : (ls : List Literal) → heardIn literals N [] reply ≡ whole ls
+        → (ltb (missing N (says ls)) N ≡ true) ⊎ (ltb (missing N (says ls)) N ≡ false) → completed N (whole ls) ≡ values vs
+        → Complete N reply vs
+    said ls h (inl b) q =
+        let r : refusal 64 (suc (missing N (says ls))) ≡ values vs = rw b at q in
+        let z : _≡_ {A = ℕ} 0 1 = cc in
+        absurd (omega arith)
+    said ls h (inr b) q =
+        let v : values (tab N (λ x. truth (says ls x))) ≡ values vs = rw b at q in
+        record {
+          listed = ls;
+          heard = h;
+          all = omega (arith, ltb-false (missing N (says ls)) N b, first-most (λ x. eqb (says ls x) 0) N);
+          are = cc;
+        }
+
+    go : (H : Heard (List Literal)) → heardIn literals N [] reply ≡ H → completed N H ≡ values vs → Complete N reply vs
+    go (turned c k ls) h q = let z : _≡_ {A = ℕ} 0 1 = cc in absurd (omega arith)
+    go (whole ls) h q = said ls h (split (ltb (missing N (says ls)) N)) q
+
+pub complete-reads : (N : ℕ) (reply vs : List ℕ) → Complete N reply vs → valuesRead N reply ≡ values vs
+unfolding valuesRead
+complete-reads N reply vs c = rw (c .heard, le-ltb (missing N (says (c .listed))) N (omega (arith, c .all)), c .are)
+
+-- ---- they are as many as the variables, and 0 or 1
 
 pub record Values (N : ℕ) (vs : List ℕ) : Type 0 where
   pub long : length vs ≡ N
@@ -108,18 +146,10 @@ truth-small b = go (eqb b 1)
     go false = omega arith
 
 pub read-values : (N : ℕ) (reply vs : List ℕ) → valuesRead N reply ≡ values vs → Values N vs
-unfolding valuesRead
-read-values N reply vs e = go (heardIn literals N [] reply) e
-  where
-    said : (ls : List Literal) (b : Bool) (c k : ℕ) → cond b (refusal c k) (values (tab N λ x. truth (says ls x))) ≡ values vs → Values N vs
-    said ls true c k q = let z : _≡_ {A = ℕ} 0 1 = cc in absurd (omega arith)
-    said ls false c k q =
-        let v : vs ≡ tab N (λ x. truth (says ls x)) = cc in
-        record {
-          long = ap length v ∙ length-tab N (λ x. truth (says ls x));
-          small = λ x l. rw (v, getD-tab N (λ x. truth (says ls x)) x 0 l) (truth-small (says ls x));
-        }
-
-    go : (H : Heard (List Literal)) → completed N H ≡ values vs → Values N vs
-    go (turned c k ls) q = let z : _≡_ {A = ℕ} 0 1 = cc in absurd (omega arith)
-    go (whole ls) q = said ls (ltb (missing N (says ls)) N) _ _ q
+read-values N reply vs e =
+    let c = read-complete N reply vs e in
+    let value : ℕ → ℕ = λ x. truth (says (c .listed) x) in
+    record {
+      long = ap length (c .are) ∙ length-tab N value;
+      small = λ x l. rw (c .are, getD-tab N value x 0 l) (truth-small (says (c .listed) x));
+    }

@@ -7,6 +7,7 @@ ghost use lib.Seq.{slice};
 ghost use Rattle.lists.specs.Rows.{num};
 ghost use Rattle.lists.specs.Pieces.{cut, upTo};
 ghost use Rattle.tokens.specs.Numbers.{token};
+ghost use Rattle.tokens.specs.Kinds.{kindOf};
 ghost use Rattle.reply.specs.Said.{marks};
 ghost use Rattle.reply.specs.Lines.{comment, more, opening, unended, sayIn, numbersIn, valueLineIn, valueLinesIn, closing};
 ghost use Rattle.reply.specs.Reply.{heardIn, missing, valuesRead};
@@ -17,6 +18,7 @@ ghost use Rattle.reply.specs.Answers.{outcome, settled, partOf, openedOf
 use cnf::Evaluation;
 use job::Job;
 use job::Refusal;
+use reader::Line;
 use tokens::Kind;
 use tokens::Token;
 use tokens::Word;
@@ -49,10 +51,13 @@ enum Place {
     At(usize, usize),
 }
 
-// Where the line that starts at at ends: at its LF, or with the text.
-fn line_end(s: &[u8], at: usize) -> usize
+// The line that starts at at: its kind, and where it ends, at its LF or with the text.
+fn line_in(s: &[u8], at: usize) -> Line
     requires { ⌜ at ≤ length (now s) ⌝ }
-    ensures { λ r. ⌜ (r ≡ at + length (upTo 10 (slice at (length (now (s .entry))) (now (s .entry))))) × (at ≤ r) × (r ≤ length (now (s .entry))) ⌝ }
+    ensures { λ r. ⌜ (r .end ≡ at + length (upTo 10 (slice at (length (now (s .entry))) (now (s .entry)))))
+        × (at ≤ r .end)
+        × (r .end ≤ length (now (s .entry)))
+        × (r .kind ≡ kindOf (slice at (r .end) (now (s .entry)))) ⌝ }
 {
     reader::line_at(s, at, s.len())
 }
@@ -60,7 +65,10 @@ fn line_end(s: &[u8], at: usize) -> usize
 // The word that starts at at, in a line that ends at to.
 fn word_in(s: &[u8], at: usize, to: usize) -> Word
     requires { ⌜ (at ≤ to) × (to ≤ length (now s)) ⌝ }
-    ensures { λ r. ⌜ (r .token ≡ token (slice at (r .end) (now (s .entry)))) × (r .end ≡ at + length (upTo 32 (slice at to (now (s .entry))))) × (at ≤ r .end) × (r .end ≤ to) ⌝ }
+    ensures { λ r. ⌜ (r .token ≡ token (slice at (r .end) (now (s .entry))))
+        × (r .end ≡ at + length (upTo 32 (slice at to (now (s .entry)))))
+        × (at ≤ r .end)
+        × (r .end ≤ to) ⌝ }
 {
     reader::word_at(s, at, to)
 }
@@ -72,15 +80,16 @@ fn read_opening(s: &[u8]) -> Place
     let mut at: usize = 0;
     let mut line: usize = 1;
     loop {
-        let e = line_end(s, at);
-        if e == s.len() {
+        let here = line_in(s, at);
+        let end = here.end;
+        if end == s.len() {
             return Place::Halt(61, line);
         }
-        let k = reader::kind_at(s, at, e);
-        match k {
+        let kind = here.kind;
+        match kind {
             Kind::Comment => {}
             Kind::Satisfiable => {
-                return Place::At(e + 1, line + 1);
+                return Place::At(end + 1, line + 1);
             }
             Kind::Unsatisfiable => {
                 return Place::Halt(66, line);
@@ -89,7 +98,7 @@ fn read_opening(s: &[u8]) -> Place
                 return Place::Halt(61, line);
             }
         }
-        at = e + 1;
+        at = end + 1;
         line += 1;
     }
 }
@@ -150,12 +159,20 @@ fn read_numbers(s: &[u8], from: usize, to: usize, work: &mut [u8], n: usize) -> 
 }
 
 // A line of `v` and numbers, or a comment, which says nothing.
-fn read_value_line(s: &[u8], from: usize, to: usize, work: &mut [u8], n: usize) -> Numbers
-    requires { ⌜ (from ≤ to) × (to ≤ length (now s)) × (n ≤ length (now work)) ⌝ }
-    ensures { λ r. ⌜ partOf r (now (work .exit)) ≡ cond (comment (slice from to (now (s .entry)))) (more (now (work .entry))) (valueLineIn marks n (now (work .entry)) (slice from to (now (s .entry)))) ⌝ }
+fn read_value_line(
+    s: &[u8],
+    kind: Kind,
+    from: usize,
+    to: usize,
+    work: &mut [u8],
+    n: usize,
+) -> Numbers
+    requires { ⌜ (from ≤ to) × (to ≤ length (now s)) × (n ≤ length (now work)) × (kind ≡ kindOf (slice from to (now s))) ⌝ }
+    ensures { λ r. ⌜ partOf r (now (work .exit)) ≡
+        cond (comment (slice from to (now (s .entry)))) (more (now (work .entry)))
+        (valueLineIn marks n (now (work .entry)) (slice from to (now (s .entry)))) ⌝ }
 {
-    let k = reader::kind_at(s, from, to);
-    match k {
+    match kind {
         Kind::Comment => Numbers::More,
         Kind::Values => read_numbers(s, from + 2, to, work, n),
         _ => Numbers::Fault(61),
@@ -163,11 +180,13 @@ fn read_value_line(s: &[u8], from: usize, to: usize, work: &mut [u8], n: usize) 
 }
 
 // The text's end or a last line without LF, where numbers are still to come.
-fn read_unended(s: &[u8], at: usize, line: usize, work: &mut [u8], n: usize) -> Place
-    requires { ⌜ (at ≤ length (now s)) × (n ≤ length (now work)) ⌝ }
-    ensures { λ r. ⌜ (toldOf (now (s .entry)) (now (work .exit)) r ≡ unended line (valueLineIn marks n (now (work .entry)) (slice at (length (now (s .entry))) (now (s .entry))))) × inside (now (s .entry)) r ⌝ }
+fn read_unended(s: &[u8], kind: Kind, at: usize, line: usize, work: &mut [u8], n: usize) -> Place
+    requires { ⌜ (at ≤ length (now s)) × (n ≤ length (now work)) × (kind ≡ kindOf (slice at (length (now s)) (now s))) ⌝ }
+    ensures { λ r. ⌜ (toldOf (now (s .entry)) (now (work .exit)) r ≡
+        unended line (valueLineIn marks n (now (work .entry)) (slice at (length (now (s .entry))) (now (s .entry)))))
+        × inside (now (s .entry)) r ⌝ }
 {
-    let r = read_value_line(s, at, s.len(), work, n);
+    let r = read_value_line(s, kind, at, s.len(), work, n);
     match r {
         Numbers::Fault(c) => Place::Halt(c, line),
         Numbers::More => Place::Halt(61, line),
@@ -178,26 +197,30 @@ fn read_unended(s: &[u8], at: usize, line: usize, work: &mut [u8], n: usize) -> 
 // The lines of `v`, up to the line behind the closing 0.
 fn read_values(s: &[u8], from: usize, first: usize, work: &mut [u8], n: usize) -> Place
     requires { ⌜ (from ≤ length (now s)) × (first ≤ from + 1) × (n ≤ length (now work)) ⌝ }
-    ensures { λ r. ⌜ (toldOf (now (s .entry)) (now (work .exit)) r ≡ valueLinesIn marks n first (now (work .entry)) (cut 10 (drop from (now (s .entry))))) × inside (now (s .entry)) r ⌝ }
+    ensures { λ r. ⌜ (toldOf (now (s .entry)) (now (work .exit)) r ≡
+        valueLinesIn marks n first (now (work .entry)) (cut 10 (drop from (now (s .entry)))))
+        × inside (now (s .entry)) r ⌝ }
 {
     let mut at = from;
     let mut line = first;
     loop {
-        let e = line_end(s, at);
-        if e == s.len() {
-            return read_unended(s, at, line, work, n);
+        let here = line_in(s, at);
+        let end = here.end;
+        let kind = here.kind;
+        if end == s.len() {
+            return read_unended(s, kind, at, line, work, n);
         }
-        let r = read_value_line(s, at, e, &mut *work, n);
+        let r = read_value_line(s, kind, at, end, &mut *work, n);
         match r {
             Numbers::Fault(c) => {
                 return Place::Halt(c, line);
             }
             Numbers::Closed => {
-                return Place::At(e + 1, line + 1);
+                return Place::At(end + 1, line + 1);
             }
             Numbers::More => {}
         }
-        at = e + 1;
+        at = end + 1;
         line += 1;
     }
 }
@@ -210,18 +233,19 @@ fn read_closing(s: &[u8], from: usize, first: usize) -> usize
     let mut at = from;
     let mut line = first;
     loop {
-        let e = line_end(s, at);
-        if e == s.len() {
-            if at == e {
+        let here = line_in(s, at);
+        let end = here.end;
+        if end == s.len() {
+            if at == end {
                 return 0;
             }
             return line;
         }
-        let k = reader::kind_at(s, at, e);
-        let Kind::Comment = k else {
+        let kind = here.kind;
+        let Kind::Comment = kind else {
             return line;
         };
-        at = e + 1;
+        at = end + 1;
         line += 1;
     }
 }

@@ -19,7 +19,7 @@ use Rattle.scan.specs.Lines.{rows, lines}
 use Rattle.scan.proofs.LineLaws.{lines-at, lines-out}
 use Rattle.put.specs.Put.{Put}
 use Rattle.program.specs.ProgramLine.{isLemmas, isComment}
-use Rattle.text.specs.Numerals.{lf}
+use Rattle.text.specs.Bytes.{lf}
 use Rattle.text.specs.Comments.{remark, remarks, comments}
 
 -- ---- one line

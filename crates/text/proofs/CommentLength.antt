@@ -12,7 +12,7 @@ use Rattle.lists.specs.Pieces.{Pieces, last, piece, onto, cut, starts}
 use Rattle.lists.proofs.Logic.{split}
 use Rattle.lists.proofs.PieceLaws.{starts-length}
 use Rattle.scan.specs.Lines.{rows, lines}
-use Rattle.program.specs.ProgramLine.{isLemmas, isComment}
+use Rattle.program.specs.ProgramLine.{isLemmas}
 use Rattle.text.specs.Comments.{remark, remarks, comments}
 use Rattle.text.proofs.CommentLaws.{remark-long, remark-not}
 

@@ -6,8 +6,8 @@ use native.Mathlib.Omega.{arith}
 use lib.ListN.{length, set}
 use Rattle.lists.specs.Writing.{write}
 use Rattle.lists.proofs.WritingLaws.{write-one, write-before}
-use Rattle.text.specs.Numerals.{digit, numeral}
-use Rattle.text.proofs.NumeralLaws.{numeral-small, numeral-more, length-more, length-some}
+use Rattle.lists.specs.Numerals.{digit, numeral}
+use Rattle.lists.proofs.NumeralLaws.{numeral-small, numeral-more, length-more, length-some}
 
 -- the last digit at place at, and then the others before it
 pub digit-next : (l : List ℕ) (at x : ℕ) → 10 ≤ x → length (numeral x) ≤ at + 1 → at < length l

@@ -14,7 +14,7 @@ use Rattle.program.specs.ProgramLine.{isLemmas, isComment}
 use Rattle.put.specs.Names.{nameAt}
 use Rattle.text.specs.Comments.{remarks, comments}
 use Rattle.text.specs.Comments as Comments
-use Rattle.text.specs.Numerals.{digitsBelow, numeral}
+use Rattle.lists.specs.Numerals.{digitsBelow, numeral}
 use Rattle.text.specs.Dimacs.{told, numberText}
 use Rattle.text.specs.Texts.{fitting, texted, withTexts}
 use Rattle.text.specs.Whole.{withText}

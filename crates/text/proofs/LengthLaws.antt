@@ -1,8 +1,8 @@
 -- How long the texts are: the two lines of two numbers, a number of a clause, a line of a run, and all lines of a run.
-use mathlib.Core.Path.{_≡_, refl, ap, _∙_}
+use mathlib.Core.Path.{_≡_}
 use mathlib.Core.Bool.{Bool, true, false, cond}
 use mathlib.Core.Logic.{_⊎_, inl, inr}
-use mathlib.Core.List.{List, [], _∷_, _++_}
+use mathlib.Core.List.{List, [], _∷_}
 use Prim.Native.Nat.{ℕ, zero, suc, _+_, _*_, _-_, _^_, _≤_, _<_}
 use native.Mathlib.Omega.{arith}
 use lib.Dec.{eqb}
@@ -11,22 +11,19 @@ use lib.Signed.{ltZ}
 use lib.ListN.{length, length-append}
 use mir.Syntax.{w32}
 use mir.Val.{SFits}
-use Rattle.lists.specs.Rows.{each, tab, num}
+use Rattle.lists.specs.Rows.{each, num}
 use Rattle.lists.specs.Places.{first}
 use Rattle.lists.proofs.Logic.{split}
 use Rattle.lists.proofs.RowLaws.{length-tab}
 use Rattle.lists.proofs.PlaceLaws.{first-most}
-use Rattle.job.specs.declared.Job.{Job}
+use Rattle.lists.specs.Numerals.{numeral}
+use Rattle.lists.proofs.NumeralLaws.{length-few, length-small, length-word}
 use Rattle.job.specs.declared.Refusal.{Refusal}
-use Rattle.job.specs.Limits.{maxSteps, maxBound}
 use Rattle.job.specs.Table.{n}
-use Rattle.job.specs.RunToValues.{groupByte}
 use Rattle.put.specs.Names.{nameAt}
-use Rattle.text.specs.Numerals.{numeral}
-use Rattle.text.specs.Dimacs.{told, numberText}
+use Rattle.text.specs.Dimacs.{told}
 use Rattle.text.specs.Lines.{sentence, header, refused}
-use Rattle.text.specs.RunText.{word, bitText, bitsText, turnText, stepsText, lineText, runLine}
-use Rattle.text.proofs.NumeralLaws.{length-few, length-small, length-word}
+use Rattle.text.specs.RunText.{word, bitText, turnText, stepsText, lineText}
 use Rattle.text.proofs.SignLaws.{size-small}
 use Rattle.text.proofs.ToldLaws.{length-less, length-not-less}
 

@@ -1,5 +1,4 @@
 -- The laws of the text definitions.
-pub mod NumeralLaws
 pub mod DigitLaws
 pub mod SignLaws
 pub mod ToldLaws

@@ -13,9 +13,10 @@ use lib.Signed.{ltZ}
 use Rattle.lists.specs.Writing.{write}
 use Rattle.lists.proofs.Logic.{split}
 use Rattle.lists.proofs.WritingLaws.{length-write, write-end, write-front}
-use Rattle.text.specs.Numerals.{lf, space, minus, numeral}
+use Rattle.lists.specs.Numerals.{numeral}
+use Rattle.text.specs.Bytes.{lf, space, minus}
 use Rattle.text.specs.Dimacs.{told}
-use Rattle.text.proofs.NumeralLaws.{length-some}
+use Rattle.lists.proofs.NumeralLaws.{length-some}
 
 pub told-zero : (z : ℤ) → natAbs z ≡ 0 → told z ≡ numeral (natAbs z) ++ (lf ∷ [])
 unfolding told

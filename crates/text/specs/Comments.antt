@@ -5,7 +5,7 @@ use Prim.Native.Nat.{ℕ}
 use lib.ListN.{drop}
 use Rattle.scan.specs.Lines.{Row, lines}
 use Rattle.program.specs.ProgramLine.{isLemmas, isComment}
-use Rattle.text.specs.Numerals.{lf}
+use Rattle.text.specs.Bytes.{lf}
 
 -- a comment after `c `; of another line nothing
 unfoldable pub remark : List ℕ → List ℕ

@@ -3,7 +3,8 @@ use mathlib.Core.List.{List, [], _∷_, _++_}
 use Prim.Native.Nat.{ℕ, zero, suc}
 use lib.IntN.{ℤ, pos, negsuc}
 use lib.ListN.{getD}
-use Rattle.text.specs.Numerals.{lf, space, minus, numeral}
+use Rattle.lists.specs.Numerals.{numeral}
+use Rattle.text.specs.Bytes.{lf, space, minus}
 
 -- a number and a space; the 0 that closes a clause and a line feed
 unfoldable pub told : ℤ → List ℕ

@@ -1,5 +1,5 @@
 -- What the programs print (document 01, 'A job in full'), as bytes.
-pub mod Numerals
+pub mod Bytes
 pub mod Texts
 pub mod Dimacs
 pub mod Whole

@@ -2,7 +2,8 @@
 use mathlib.Core.List.{List, [], _∷_, _++_}
 use Prim.Native.Nat.{ℕ}
 use Rattle.job.specs.declared.Refusal.{Refusal}
-use Rattle.text.specs.Numerals.{lf, numeral}
+use Rattle.lists.specs.Numerals.{numeral}
+use Rattle.text.specs.Bytes.{lf}
 
 -- two numbers, each behind its word
 unfoldable pub sentence : List ℕ → ℕ → List ℕ → ℕ → List ℕ

@@ -10,7 +10,8 @@ use Rattle.job.specs.Limits.{maxBound, maxSteps}
 use Rattle.job.specs.Table.{n, r}
 use Rattle.job.specs.RunToValues.{groupByte}
 use Rattle.put.specs.Names.{nameAt}
-use Rattle.text.specs.Numerals.{lf, space, equals, numeral}
+use Rattle.lists.specs.Numerals.{numeral}
+use Rattle.text.specs.Bytes.{lf, space, equals}
 
 -- a name behind a space
 abbrev pub word : List ℕ → ℕ → List ℕ

@@ -3,7 +3,7 @@ ghost use mathlib.Core.Path.{_≡_};
 ghost use Prim.Native.Nat.{_-_, _≤_};
 ghost use lib.ListN.{length};
 ghost use Rattle.lists.specs.Writing.{write};
-ghost use Rattle.text.specs.Numerals.{numeral};
+ghost use Rattle.lists.specs.Numerals.{numeral};
 
 // How many digits x has.
 pub(crate) fn digits(x: usize) -> usize

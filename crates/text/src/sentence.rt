@@ -2,7 +2,7 @@
 ghost use Prim.Native.Nat.{_+_, _≤_};
 ghost use lib.ListN.{length};
 ghost use Rattle.put.specs.Put.{Put};
-ghost use Rattle.text.specs.Numerals.{numeral};
+ghost use Rattle.lists.specs.Numerals.{numeral};
 ghost use Rattle.text.specs.Lines.{sentence};
 use super::numeral::digits;
 use super::numeral::put_digits;

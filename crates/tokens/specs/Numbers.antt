@@ -26,6 +26,10 @@ decimal v (d ∷ ds) = decimal (v * 10 + (d - 48)) ds
 unfoldable pub allowed : List ℕ → Bool
 allowed ds = within 1 7 (length ds) && (not (eqb (num ds 0) 48) || eqb (length ds) 1)
 
+-- the largest number of at most 7 digits
+abbrev pub maxNumber : ℕ
+maxNumber = 9999999
+
 -- a number by its sign, true for one without `-`: 0 closes, and there is no `-0`; whole where nothing stands behind the digits
 abbrev pub numbered : Bool → ℕ → Bool → Token
 numbered on zero whole = cond (on && whole) Zero Bad

@@ -35,7 +35,7 @@ same : (c : tie.After-lemma-line Inv-loop μ-loop) → Holds (λ (x : Job). x .p
 same c =
     let o = c .before .before .before .before in
     let P = o .before .before .args .start .program in
-    subst (λ (r : Reading). Holds (λ (x : Job). x .program ≡ P) r) (sym (c .lemma-line .ensures)) (line-same P (o .loop .j) _ (o .loop .n + 1) (o .loop .inv .1))
+    subst (λ (r : Reading). Holds (λ (x : Job). x .program ≡ P) r) (sym (c .lemma-line .ensures)) (line-same P (o .loop .j) _ _ (o .loop .inv .1))
 
 -- what is left before the line, by the line's answer
 turn : (c : tie.After-lemma-line Inv-loop μ-loop) →

@@ -1,21 +1,18 @@
 -- `lemma_of` reads word by word: what is left from here gives the answer of the whole.
-use mir.Val.{toZ, ofZ}
-use Rattle.parse.proofs.LemmaLaws.{words-space, words-word, words-end, bare-part, sign-part, item-most, lemma-44, lemma-43, lemma-on}
-use Rattle.parse.specs.Lemmas.{lemma, words, itemOf, withItem, signed as signedItem, bare, negated}
-use Rattle.scan.proofs.WordLaws.{word-fits, word-part, end-more}
-use Rattle.scan.specs.Bytes.{wordAt}
-use Rattle.job.specs.Limits.{maxSteps, maxLemmas, maxNames}
-use mir.ValLaws.{toZ-ofZ}
-use mir.Syntax.{w16}
-use lib.IntN.{ℤ}
-use lib.Seq.{slice}
-use lib.ListN.{length, drop}
+use mathlib.Core.Bool.{Bool}
+use mathlib.Core.Path.{_≡_, refl, ap, _∙_, sym}
+use Prim.Native.Nat.{ℕ, _≤_, _<_, _-_, _+_}
 use native.Mathlib.Numerals.{add-one}
 use native.Mathlib.Omega.{arith}
-use Prim.Native.Nat.{ℕ, _≤_, _<_, _-_, _+_}
-use mathlib.Core.List.{List, _∷_}
-use mathlib.Core.Bool.{Bool}
-use mathlib.Core.Path.{_≡_, ap, _∙_, sym}
+use lib.IntN.{ℤ}
+use lib.ListN.{length, drop}
+use mir.Syntax.{w16}
+use mir.ValLaws.{toZ-ofZ}
+use Rattle.job.specs.Limits.{maxSteps, maxLemmas, maxNames}
+use Rattle.scan.specs.Bytes.{wordAt}
+use Rattle.parse.specs.Lemmas.{lemma, words, withItem, bare, signed as signedItem}
+use Rattle.parse.proofs.LemmaLaws.{words-space, words-word, words-end, sign-word, word-ends, name-is, name-end}
+use Rattle.parse.proofs.LemmaLaws.{item-within, lemma-44, lemma-43, lemma-on}
 use borrow.Author.Needs.{needs}
 use Rattle.parse.proofs.lemma_of.Statement.{statement}
 use Rattle.parse.proofs.lemma_of.Tie as tie
@@ -27,55 +24,6 @@ Inv-loop s n j₀ k₀ at₀ j k at =
 
 abbrev μ-loop : tie.MeasureT-loop
 μ-loop s n j₀ k₀ at₀ j k at = length s - at
-
-ends : (c : tie.After-end-of Inv-loop μ-loop) → let o = c .before .before .before .before in
-    (o .loop .at < c .end-of .result) × (c .end-of .result ≤ length (o .before .before .args .s .now))
-ends c =
-    let o = c .before .before .before .before in
-    let s = o .before .before .args .s .now in
-    let l : o .loop .at < length s = omega arith in
-    let m = end-more 32 s (o .loop .at) l (c .before .if1 .left) in
-    (omega (arith, c .end-of .ensures, m), omega (arith, c .end-of .ensures, word-fits 32 s (o .loop .at) (c .end-of .result) (c .end-of .ensures), l))
-
--- the lemma that is left, with the word that stands at at
-turn : (c : tie.After-end-of Inv-loop μ-loop) → let o = c .before .before .before .before in
-    let a = o .before .before .args in
-    lemma (a .start) (a .n) 0 (words (a .s .now))
-    ≡ lemma (o .loop .j) (a .n) (o .loop .k) (wordAt 32 (a .s .now) (o .loop .at) ∷ words (drop (c .end-of .result) (a .s .now)))
-turn c =
-    let o = c .before .before .before .before in
-    let a = o .before .before .args in
-    let l : o .loop .at < length (a .s .now) = omega arith in
-    o .loop .inv .5
-    ∙ ap (lemma (o .loop .j) (a .n) (o .loop .k)) (words-word (a .s .now) (o .loop .at) (c .end-of .result) l (c .before .if1 .left) (c .end-of .ensures))
-
--- the word is a part of the line
-part : (c : tie.After-end-of Inv-loop μ-loop) → let o = c .before .before .before .before in
-    slice (o .loop .at) (c .end-of .result) (o .before .before .args .s .now) ≡ wordAt 32 (o .before .before .args .s .now) (o .loop .at)
-part c = let o = c .before .before .before .before in word-part 32 (o .before .before .args .s .now) (o .loop .at) (c .end-of .result) (c .end-of .ensures)
-
--- the name behind the word's `~` is the one that is looked up
-item : (c : tie.After-item-of Inv-loop μ-loop) → let o = c .before .before .before .before .before .before .before .before .before .before in
-    itemOf (o .loop .j) (bare (wordAt 32 (o .before .before .args .s .now) (o .loop .at))) ≡ c .item-of .result
-item c =
-    let f = c .before .before .before .before .before .before in
-    let o = f .before .before .before .before in
-    let s = o .before .before .args .s .now in
-    let e = f .end-of .result in
-    ap (λ (w : List ℕ). itemOf (o .loop .j) (bare w)) (sym (part f))
-    ∙ ap (itemOf (o .loop .j)) (bare-part s (o .loop .at) e (ends f .0) (ends f .1) _ (c .before .before .before .before .bare-at .ensures))
-    ∙ sym (c .item-of .ensures)
-
--- what is stored is the item with the word's sign
-stored : (c : tie.After-signed Inv-loop μ-loop) → let f = c .before .before .before .before .before .before .before .before .before in
-    let o = f .before .before .before .before in
-    toZ w16 (ofZ w16 (c .signed .result))
-    ≡ signedItem (negated (wordAt 32 (o .before .before .args .s .now) (o .loop .at))) (c .before .before .before .item-of .result)
-stored c =
-    let f = c .before .before .before .before .before .before .before .before .before in
-    let o = f .before .before .before .before in
-    let sign = sym (sign-part (o .before .before .args .s .now) (o .loop .at) (f .end-of .result) (ends f .0) (ends f .1)) ∙ ap negated (part f) in
-    toZ-ofZ w16 _ (record { sfits = c .signed .ok }) ∙ c .signed .ensures ∙ ap (λ (b : Bool). signedItem b (c .before .before .before .item-of .result)) sign
 
 loop-holds : tie.Need-loop-holds Inv-loop μ-loop
 loop-holds c = search needs
@@ -91,61 +39,86 @@ loop-less c = search needs
 
 loop-again : tie.Need-loop-again Inv-loop μ-loop
 loop-again c =
-    let a = c .before .before .before .before .before .args in
-    let loop′ = c .before .before .before .loop in
-    let o = c .before .before .loop-test in
-    let l : loop′ .at < length (a .s .now) = omega arith in
-    let next = words-space (a .s .now) (loop′ .at) l (c .if1 .taken) ∙ ap (λ (m : ℕ). words (drop m (a .s .now))) (sym (add-one (loop′ .at))) in
-    let i = loop′ .inv in
-    (omega arith, i .1, i .2, i .3, i .4, i .5 ∙ ap (lemma (loop′ .j) (a .n) (loop′ .k)) next)
-
-end-of-requires : tie.Need-end-of-requires Inv-loop μ-loop
-end-of-requires c κs = search needs
+    let turn = c .before .before .before in
+    let a = turn .before .before .args in
+    let s = a .s .now in
+    let l = turn .loop in
+    let i = l .inv in
+    let in-line : l .at < length s = omega arith in
+    let next = words-space s (l .at) in-line (c .if1 .taken) ∙ ap (λ (m : ℕ). words (drop m s)) (sym (add-one (l .at))) in
+    (omega arith, i .1, i .2, i .3, i .4, i .5 ∙ ap (lemma (l .j) (a .n) (l .k)) next)
 
 refused-requires : tie.Need-refused-requires Inv-loop μ-loop
 refused-requires c κs = search needs
 
 returns : tie.Need-returns Inv-loop μ-loop
 returns c =
-    let args′ = c .before .before .before .before .before .before .before .before .args in
-    let loop′ = c .before .before .before .before .before .before .loop in
-    let c2 = c .before .before in
-    c .refused .ensures ∙ lemma-44 (loop′ .j) (args′ .n) (loop′ .k) _ _ (c .before .if2 .taken) ∙ sym (turn (c2))
+    let turn = c .before .before .before .before .before in
+    let a = turn .before .before .args in
+    let s = a .s .now in
+    let l = turn .loop in
+    let in-line : l .at < length s = omega arith in
+    let here = words-word s (l .at) _ in-line (c .before .before .if1 .left) refl in
+    c .refused .ensures
+    ∙ lemma-44 (l .j) (a .n) (l .k) _ _ (c .before .if2 .taken)
+    ∙ sym (l .inv .5 ∙ ap (lemma (l .j) (a .n) (l .k)) here)
 
 bare-at-requires : tie.Need-bare-at-requires Inv-loop μ-loop
 bare-at-requires c κs = search needs
 
-item-of-requires : tie.Need-item-of-requires Inv-loop μ-loop
-item-of-requires c κs =
-    let loop′ = c .before .before .before .before .before .before .before .before .before .loop in
-    let c5 = c .before .before .before .before .before in
-    let i = loop′ .inv in (i .3, i .4, ends (c5) .1)
+item-at-requires : tie.Need-item-at-requires Inv-loop μ-loop
+item-at-requires c κs = search needs
+
+enum-known-named : tie.Need-enum-known-named Inv-loop μ-loop
+enum-known-named c = search needs
+
+enum-told : tie.Need-enum-told Inv-loop μ-loop
+enum-told c = search needs
 
 refused-requires-2 : tie.Need-refused-requires-2 Inv-loop μ-loop
 refused-requires-2 c κs = search needs
 
 returns-2 : tie.Need-returns-2 Inv-loop μ-loop
 returns-2 c =
-    let args′ = c .before .before .before .before .before .before .before .before .before .before .before .before .before .before .args in
-    let loop′ = c .before .before .before .before .before .before .before .before .before .before .before .before .loop in
-    let if2′ = c .before .before .before .before .before .before .before .if2 in
-    let c8 = c .before .before .before .before .before .before .before .before in
-    let c2 = c .before .before in
-    c .refused2 .ensures ∙ lemma-43 (loop′ .j) (args′ .n) (loop′ .k) _ _ (if2′ .left) (item (c2) ∙ c .before .if3 .taken) ∙ sym (turn (c8))
+    let asked = c .before .before .before in
+    let begun = asked .before .before .before in
+    let bared = begun .before .before .before in
+    let turn = bared .before .before .before .before .before in
+    let a = turn .before .before .args in
+    let s = a .s .now in
+    let l = turn .loop in
+    let in-line : l .at < length s = omega arith in
+    let no-space = bared .before .before .if1 .left in
+    let from = bared .bare-at in
+    let name = asked .item-at in
+    let is = name-is s (l .at) in-line no-space (from .result) (from .ensures) (l .j) (a .n) (name .result) (name .ensures)
+    (l .inv .3) (l .inv .4) in
+    let here = words-word s (l .at) _ in-line no-space refl in
+    c .refused2 .ensures
+    ∙ lemma-43 (l .j) (a .n) (l .k) _ _ (bared .before .if2 .left) (sym is ∙ c .before .enum-told .given .1)
+    ∙ sym (l .inv .5 ∙ ap (lemma (l .j) (a .n) (l .k)) here)
 
 shared-slice-read-signed : tie.Need-shared-slice-read-signed Inv-loop μ-loop
 shared-slice-read-signed c = search needs
 
 signed-requires : tie.Need-signed-requires Inv-loop μ-loop
 signed-requires c κs =
-    let args′ = c .before .before .before .before .before .before .before .before .before .before .before .before .before .before .args in
-    let loop′ = c .before .before .before .before .before .before .before .before .before .before .before .before .loop in
-    let end-of′ = c .before .before .before .before .before .before .before .before .end-of in
-    let bare-at′ = c .before .before .before .before .before .before .bare-at in
-    let item-of′ = c .before .before .item-of in
-    let j = loop′ .j in
-    let w = slice (bare-at′ .result) (end-of′ .result) (args′ .s .now) in
-    omega (arith, item-of′ .ensures, item-most (j .labels) (j .names) (j .program .steps) (j .program .variables) w, loop′ .inv)
+    let asked = c .before .before .before .before in
+    let begun = asked .before .before .before in
+    let bared = begun .before .before .before in
+    let turn = bared .before .before .before .before .before in
+    let a = turn .before .before .args in
+    let s = a .s .now in
+    let l = turn .loop in
+    let in-line : l .at < length s = omega arith in
+    let no-space = bared .before .before .if1 .left in
+    let from = bared .bare-at in
+    let name = asked .item-at in
+    let is = name-is s (l .at) in-line no-space (from .result) (from .ensures) (l .j) (a .n) (name .result) (name .ensures)
+    (l .inv .3) (l .inv .4) in
+    let given = c .before .before .named .given in
+    let few = item-within (l .j) (bare (wordAt 32 s (l .at))) (given .0 .0) (sym is ∙ given .1) in
+    omega (arith, few .1, l .inv .3, l .inv .4)
 
 mul-z : tie.Need-mul-z Inv-loop μ-loop
 mul-z c = search needs
@@ -163,29 +136,54 @@ add-k : tie.Need-add-k Inv-loop μ-loop
 add-k c = search needs
 
 loop-less-2 : tie.Need-loop-less-2 Inv-loop μ-loop
-loop-less-2 c = omega (arith, ends (c .before .before .before .before .before .before .before .before .before))
+loop-less-2 c =
+    let asked = c .before .before .before .before .before in
+    let begun = asked .before .before .before in
+    let bared = begun .before .before .before in
+    let turn = bared .before .before .before .before .before in
+    let a = turn .before .before .args in
+    let s = a .s .now in
+    let l = turn .loop in
+    let in-line : l .at < length s = omega arith in
+    let no-space = bared .before .before .if1 .left in
+    let from = bared .bare-at in
+    let name = asked .item-at in
+    let end = name-end s (l .at) in-line no-space (from .result) (from .ensures) (l .j) (a .n) (name .result) (name .ensures) in
+    omega (arith, word-ends s (l .at) in-line no-space (name .result .at .column) end)
 
 loop-again-2 : tie.Need-loop-again-2 Inv-loop μ-loop
 loop-again-2 c =
-    let a = c .before .before .before .before .before .before .before .before .before .before .before .before .before .before .before .args in
-    let end-of′ = c .before .before .before .before .before .before .before .before .before .end-of in
-    let if2′ = c .before .before .before .before .before .before .before .before .if2 in
-    let item-of′ = c .before .before .before .item-of in
-    let if3′ = c .before .before .if3 in
-    let o = c .before .before .before .before .before .before .before .before .before .before .before .before .before in
-    let c9 = c .before .before .before .before .before .before .before .before .before in
-    let c3 = c .before .before .before in
-    let e = ends (c9) in
-    let i = o .loop .inv in
-    let rest = words (drop (end-of′ .result) (a .s .now)) in (
-      e .1,
-      omega (arith, if2′ .left),
-      i .2,
-      i .3,
-      i .4,
-      turn (c9)
-          ∙ lemma-on (o .loop .j) (a .n) (o .loop .k) _ _ (item-of′ .result) (if2′ .left) (item (c3)) (if3′ .left)
-          ∙ ap (λ (z : ℤ). lemma (withItem (o .loop .j) (o .loop .k) z) (a .n) (o .loop .k + 1) rest) (sym (stored c)),
+    let asked = c .before .before .before .before .before in
+    let begun = asked .before .before .before in
+    let bared = begun .before .before .before in
+    let turn = bared .before .before .before .before .before in
+    let a = turn .before .before .args in
+    let s = a .s .now in
+    let l = turn .loop in
+    let in-line : l .at < length s = omega arith in
+    let no-space = bared .before .before .if1 .left in
+    let from = bared .bare-at in
+    let name = asked .item-at in
+    let e = name .result .at .column in
+    let end = name-end s (l .at) in-line no-space (from .result) (from .ensures) (l .j) (a .n) (name .result) (name .ensures) in
+    let is = name-is s (l .at) in-line no-space (from .result) (from .ensures) (l .j) (a .n) (name .result) (name .ensures)
+    (l .inv .3) (l .inv .4) in
+    let given = c .before .before .before .named .given in
+    let i = given .0 .0 in
+    let v = l .inv in
+    let few = bared .before .if2 .left in
+    let sign = sym (sign-word s (l .at) in-line no-space) in
+    let stored = toZ-ofZ w16 _ (record { sfits = c .signed .ok }) ∙ c .signed .ensures ∙ ap (λ (b : Bool). signedItem b i) sign in
+    let rest = words (drop e s) in (
+      word-ends s (l .at) in-line no-space e end .1,
+      omega (arith, few),
+      v .2,
+      v .3,
+      v .4,
+      v .5
+          ∙ ap (lemma (l .j) (a .n) (l .k)) (words-word s (l .at) e in-line no-space end)
+          ∙ lemma-on (l .j) (a .n) (l .k) _ _ i few (sym is ∙ given .1)
+          ∙ ap (λ (z : ℤ). lemma (withItem (l .j) (l .k) z) (a .n) (l .k + 1) rest) (sym stored),
     )
 
 lemma-end-requires : tie.Need-lemma-end-requires Inv-loop μ-loop
@@ -193,11 +191,11 @@ lemma-end-requires c κs = search needs
 
 returns-3 : tie.Need-returns-3 Inv-loop μ-loop
 returns-3 c =
-    let s = c .before .before .before .before .args .s .now in
-    let n = c .before .before .before .before .args .n in
-    let loop′ = c .before .before .loop in
-    let none = words-end s (loop′ .at) (omega arith) in
-    c .lemma-end .ensures ∙ sym (loop′ .inv .5 ∙ ap (lemma (loop′ .j) n (loop′ .k)) none)
+    let turn = c .before .before in
+    let a = turn .before .before .args in
+    let l = turn .loop in
+    let none = words-end (a .s .now) (l .at) (omega arith) in
+    c .lemma-end .ensures ∙ sym (l .inv .5 ∙ ap (lemma (l .j) (a .n) (l .k)) none)
 
 pub lemma-of-spec : {M : Type 1} → statement M
 lemma-of-spec =
@@ -210,11 +208,12 @@ lemma-of-spec =
     add-at
     loop-less
     loop-again
-    end-of-requires
     refused-requires
     returns
     bare-at-requires
-    item-of-requires
+    item-at-requires
+    enum-known-named
+    enum-told
     refused-requires-2
     returns-2
     shared-slice-read-signed

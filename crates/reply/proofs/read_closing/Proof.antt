@@ -23,43 +23,44 @@ abbrev μ-loop : tie.MeasureT-loop
 loop-holds : tie.Need-loop-holds Inv-loop μ-loop
 loop-holds c = (omega arith, omega arith, refl)
 
-line-end-requires : tie.Need-line-end-requires Inv-loop μ-loop
-line-end-requires c κs = omega arith
+line-in-requires : tie.Need-line-in-requires Inv-loop μ-loop
+line-in-requires c κs = omega arith
 
 returns : tie.Need-returns Inv-loop μ-loop
 returns c =
-    let s = c .before .before .before .before .before .args .s .now in
-    let l = c .before .before .before .loop in
-    let e = c .before .before .line-end in
-    let rest = rest-last 10 s (l .at) (e .result) (l .inv .0) (e .ensures .0) (c .before .if1 .taken) in
-    close-end _ (l .line) (part-none s (l .at) (e .result) (omega arith)) ∙ sym (l .inv .2 ∙ ap (closing (l .line)) rest)
+    let turn = c .before .before .before in
+    let s = turn .before .before .args .s .now in
+    let l = turn .loop in
+    let e = c .before .before .line-in in
+    let rest = rest-last 10 s (l .at) (e .result .end) (l .inv .0) (e .ensures .0) (c .before .if1 .taken) in
+    close-end _ (l .line) (part-none s (l .at) (e .result .end) (omega arith)) ∙ sym (l .inv .2 ∙ ap (closing (l .line)) rest)
 
 returns-2 : tie.Need-returns-2 Inv-loop μ-loop
 returns-2 c =
-    let s = c .before .before .before .before .before .args .s .now in
-    let l = c .before .before .before .loop in
-    let e = c .before .before .line-end in
-    let rest = rest-last 10 s (l .at) (e .result) (l .inv .0) (e .ensures .0) (c .before .if1 .taken) in
-    let some : length (slice (l .at) (e .result) s) ≡ 0 → ⊥ =
-    λ z. c .if2 .left (omega (arith, length-slice (l .at) (e .result) s (e .ensures .2))) in
+    let turn = c .before .before .before in
+    let s = turn .before .before .args .s .now in
+    let l = turn .loop in
+    let e = c .before .before .line-in in
+    let rest = rest-last 10 s (l .at) (e .result .end) (l .inv .0) (e .ensures .0) (c .before .if1 .taken) in
+    let some : length (slice (l .at) (e .result .end) s) ≡ 0 → ⊥ =
+    λ z. c .if2 .left (omega (arith, length-slice (l .at) (e .result .end) s (e .ensures .2))) in
     close-last _ (l .line) some ∙ sym (l .inv .2 ∙ ap (closing (l .line)) rest)
-
-kind-at-requires : tie.Need-kind-at-requires Inv-loop μ-loop
-kind-at-requires c κs = search needs
 
 enum-told : tie.Need-enum-told Inv-loop μ-loop
 enum-told c = search needs
 
 returns-3 : tie.Need-returns-3 Inv-loop μ-loop
 returns-3 c =
-    let s = c .before .before .before .before .before .before .args .s .now in
-    let l = c .before .before .before .before .loop in
-    let e = c .before .before .before .line-end in
-    let more = c .before .before .if1 .left in
-    let rest = rest-piece 10 s (l .at) (e .result) (l .inv .0) (e .ensures .0) more in
-    let p = slice (l .at) (e .result) s in
-    let ps = cut 10 (drop (e .result + 1) s) in
-    let line = closes-else p ps (l .line) (c .before .kind-at .result) (c .match .keys2) ∙ ap (closes p ps (l .line)) (c .before .kind-at .ensures) ∙ close-kind p ps (l .line) in
+    let turn = c .before .before .before in
+    let s = turn .before .before .args .s .now in
+    let l = turn .loop in
+    let e = c .before .before .line-in in
+    let more = c .before .if1 .left in
+    let rest = rest-piece 10 s (l .at) (e .result .end) (l .inv .0) (e .ensures .0) more in
+    let p = slice (l .at) (e .result .end) s in
+    let ps = cut 10 (drop (e .result .end + 1) s) in
+    let none = closes-else p ps (l .line) (e .result .kind) (c .match .keys2) in
+    let line = none ∙ ap (closes p ps (l .line)) (e .ensures .3) ∙ close-kind p ps (l .line) in
     line ∙ sym (l .inv .2 ∙ ap (closing (l .line)) rest)
 
 add-at : tie.Need-add-at Inv-loop μ-loop
@@ -73,14 +74,15 @@ loop-less c = search needs
 
 loop-again : tie.Need-loop-again Inv-loop μ-loop
 loop-again c =
-    let s = c .before .before .before .before .before .before .before .args .s .now in
-    let l = c .before .before .before .before .before .loop in
-    let e = c .before .before .before .before .line-end in
-    let more = c .before .before .before .if1 .left in
-    let rest = rest-piece 10 s (l .at) (e .result) (l .inv .0) (e .ensures .0) more in
-    let p = slice (l .at) (e .result) s in
-    let ps = cut 10 (drop (e .result + 1) s) in
-    let line = ap (closes p ps (l .line)) (sym (c .enum-told .given .1) ∙ c .before .before .kind-at .ensures) ∙ close-kind p ps (l .line) in
+    let turn = c .before .before .before .before in
+    let s = turn .before .before .args .s .now in
+    let l = turn .loop in
+    let e = c .before .before .before .line-in in
+    let more = c .before .before .if1 .left in
+    let rest = rest-piece 10 s (l .at) (e .result .end) (l .inv .0) (e .ensures .0) more in
+    let p = slice (l .at) (e .result .end) s in
+    let ps = cut 10 (drop (e .result .end + 1) s) in
+    let line = ap (closes p ps (l .line)) (sym (c .enum-told .given .1) ∙ e .ensures .3) ∙ close-kind p ps (l .line) in
     (omega (arith, more), omega arith, l .inv .2 ∙ ap (closing (l .line)) rest ∙ sym line)
 
 pub read-closing-spec : {M : Type 1} → statement M
@@ -90,10 +92,9 @@ read-closing-spec =
     Inv-loop
     μ-loop
     loop-holds
-    line-end-requires
+    line-in-requires
     returns
     returns-2
-    kind-at-requires
     enum-told
     returns-3
     add-at

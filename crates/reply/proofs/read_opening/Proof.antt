@@ -23,19 +23,17 @@ abbrev μ-loop : tie.MeasureT-loop
 loop-holds : tie.Need-loop-holds Inv-loop μ-loop
 loop-holds c = (omega arith, omega arith, refl)
 
-line-end-requires : tie.Need-line-end-requires Inv-loop μ-loop
-line-end-requires c κs = omega arith
+line-in-requires : tie.Need-line-in-requires Inv-loop μ-loop
+line-in-requires c κs = omega arith
 
 returns : tie.Need-returns Inv-loop μ-loop
 returns c =
-    let s = c .before .before .before .before .args .s .now in
-    let l = c .before .before .loop in
-    let e = c .before .line-end in
-    let rest = rest-last 10 s (l .at) (e .result) (l .inv .0) (e .ensures .0) (c .if1 .taken) in
+    let turn = c .before .before in
+    let s = turn .before .before .args .s .now in
+    let l = turn .loop in
+    let e = c .before .line-in in
+    let rest = rest-last 10 s (l .at) (e .result .end) (l .inv .0) (e .ensures .0) (c .if1 .taken) in
     (open-last _ (l .line) ∙ sym (l .inv .2 ∙ ap (opening (l .line)) rest), tt)
-
-kind-at-requires : tie.Need-kind-at-requires Inv-loop μ-loop
-kind-at-requires c κs = search needs
 
 enum-told : tie.Need-enum-told Inv-loop μ-loop
 enum-told c = search needs
@@ -43,22 +41,23 @@ enum-told c = search needs
 enum-told-2 : tie.Need-enum-told-2 Inv-loop μ-loop
 enum-told-2 c = search needs
 
-add-t8 : tie.Need-add-t8 Inv-loop μ-loop
-add-t8 c = search needs
-
 add-t9 : tie.Need-add-t9 Inv-loop μ-loop
 add-t9 c = search needs
 
+add-t10 : tie.Need-add-t10 Inv-loop μ-loop
+add-t10 c = search needs
+
 returns-2 : tie.Need-returns-2 Inv-loop μ-loop
 returns-2 c =
-    let s = c .before .before .before .before .before .before .before .args .s .now in
-    let l = c .before .before .before .before .before .loop in
-    let e = c .before .before .before .before .line-end in
-    let more = c .before .before .before .if1 .left in
-    let rest = rest-piece 10 s (l .at) (e .result) (l .inv .0) (e .ensures .0) more in
-    let p = slice (l .at) (e .result) s in
-    let ps = cut 10 (drop (e .result + 1) s) in
-    let line = ap (opens p ps (l .line)) (sym (c .enum-told2 .given .1) ∙ c .before .before .kind-at .ensures) ∙ open-kind p ps (l .line) in
+    let turn = c .before .before .before .before in
+    let s = turn .before .before .args .s .now in
+    let l = turn .loop in
+    let e = c .before .before .before .line-in in
+    let more = c .before .before .if1 .left in
+    let rest = rest-piece 10 s (l .at) (e .result .end) (l .inv .0) (e .ensures .0) more in
+    let p = slice (l .at) (e .result .end) s in
+    let ps = cut 10 (drop (e .result .end + 1) s) in
+    let line = ap (opens p ps (l .line)) (sym (c .enum-told2 .given .1) ∙ e .ensures .3) ∙ open-kind p ps (l .line) in
     (line ∙ sym (l .inv .2 ∙ ap (opening (l .line)) rest), (omega (arith, more), omega arith))
 
 enum-told-3 : tie.Need-enum-told-3 Inv-loop μ-loop
@@ -66,26 +65,29 @@ enum-told-3 c = search needs
 
 returns-3 : tie.Need-returns-3 Inv-loop μ-loop
 returns-3 c =
-    let s = c .before .before .before .before .before .before .before .args .s .now in
-    let l = c .before .before .before .before .before .loop in
-    let e = c .before .before .before .before .line-end in
-    let more = c .before .before .before .if1 .left in
-    let rest = rest-piece 10 s (l .at) (e .result) (l .inv .0) (e .ensures .0) more in
-    let p = slice (l .at) (e .result) s in
-    let ps = cut 10 (drop (e .result + 1) s) in
-    let line = ap (opens p ps (l .line)) (sym (c .enum-told3 .given .1) ∙ c .before .before .kind-at .ensures) ∙ open-kind p ps (l .line) in
+    let turn = c .before .before .before .before in
+    let s = turn .before .before .args .s .now in
+    let l = turn .loop in
+    let e = c .before .before .before .line-in in
+    let more = c .before .before .if1 .left in
+    let rest = rest-piece 10 s (l .at) (e .result .end) (l .inv .0) (e .ensures .0) more in
+    let p = slice (l .at) (e .result .end) s in
+    let ps = cut 10 (drop (e .result .end + 1) s) in
+    let line = ap (opens p ps (l .line)) (sym (c .enum-told3 .given .1) ∙ e .ensures .3) ∙ open-kind p ps (l .line) in
     (line ∙ sym (l .inv .2 ∙ ap (opening (l .line)) rest), tt)
 
 returns-4 : tie.Need-returns-4 Inv-loop μ-loop
 returns-4 c =
-    let s = c .before .before .before .before .before .before .args .s .now in
-    let l = c .before .before .before .before .loop in
-    let e = c .before .before .before .line-end in
-    let more = c .before .before .if1 .left in
-    let rest = rest-piece 10 s (l .at) (e .result) (l .inv .0) (e .ensures .0) more in
-    let p = slice (l .at) (e .result) s in
-    let ps = cut 10 (drop (e .result + 1) s) in
-    let line = opens-else p ps (l .line) (c .before .kind-at .result) (c .match .keys4) ∙ ap (opens p ps (l .line)) (c .before .kind-at .ensures) ∙ open-kind p ps (l .line) in
+    let turn = c .before .before .before in
+    let s = turn .before .before .args .s .now in
+    let l = turn .loop in
+    let e = c .before .before .line-in in
+    let more = c .before .if1 .left in
+    let rest = rest-piece 10 s (l .at) (e .result .end) (l .inv .0) (e .ensures .0) more in
+    let p = slice (l .at) (e .result .end) s in
+    let ps = cut 10 (drop (e .result .end + 1) s) in
+    let none = opens-else p ps (l .line) (e .result .kind) (c .match .keys4) in
+    let line = none ∙ ap (opens p ps (l .line)) (e .ensures .3) ∙ open-kind p ps (l .line) in
     (line ∙ sym (l .inv .2 ∙ ap (opening (l .line)) rest), tt)
 
 add-at : tie.Need-add-at Inv-loop μ-loop
@@ -99,14 +101,15 @@ loop-less c = search needs
 
 loop-again : tie.Need-loop-again Inv-loop μ-loop
 loop-again c =
-    let s = c .before .before .before .before .before .before .before .args .s .now in
-    let l = c .before .before .before .before .before .loop in
-    let e = c .before .before .before .before .line-end in
-    let more = c .before .before .before .if1 .left in
-    let rest = rest-piece 10 s (l .at) (e .result) (l .inv .0) (e .ensures .0) more in
-    let p = slice (l .at) (e .result) s in
-    let ps = cut 10 (drop (e .result + 1) s) in
-    let line = ap (opens p ps (l .line)) (sym (c .enum-told .given .1) ∙ c .before .before .kind-at .ensures) ∙ open-kind p ps (l .line) in
+    let turn = c .before .before .before .before in
+    let s = turn .before .before .args .s .now in
+    let l = turn .loop in
+    let e = c .before .before .before .line-in in
+    let more = c .before .before .if1 .left in
+    let rest = rest-piece 10 s (l .at) (e .result .end) (l .inv .0) (e .ensures .0) more in
+    let p = slice (l .at) (e .result .end) s in
+    let ps = cut 10 (drop (e .result .end + 1) s) in
+    let line = ap (opens p ps (l .line)) (sym (c .enum-told .given .1) ∙ e .ensures .3) ∙ open-kind p ps (l .line) in
     (omega (arith, more), omega arith, l .inv .2 ∙ ap (opening (l .line)) rest ∙ sym line)
 
 pub read-opening-spec : {M : Type 1} → statement M
@@ -116,13 +119,12 @@ read-opening-spec =
     Inv-loop
     μ-loop
     loop-holds
-    line-end-requires
+    line-in-requires
     returns
-    kind-at-requires
     enum-told
     enum-told-2
-    add-t8
     add-t9
+    add-t10
     returns-2
     enum-told-3
     returns-3

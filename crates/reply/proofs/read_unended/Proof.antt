@@ -24,37 +24,40 @@ same-length c = search needs
 
 returns : tie.Need-returns
 returns c =
-    let a = c .before .before .before .before .before .before .before .before .before .args in
-    let k = a .line in
+    let asked = c .before .before .before .before .before in
+    let a = asked .before .before .before .before .args in
     let p = slice (a .at) (length (a .s .now)) (a .s .now) in
-    let same = line-unended (a .n) (a .work .now) p k in
-    let r = c .before .before .before .before .before .read-value-line in
+    let same = line-unended (a .n) (a .work .now) p (a .line) in
+    let r = asked .read-value-line in
+    let line = lineIn (a .n) (a .work .now) p in
     let g = c .before .r .given in
-    (open-fault k (r .result) (r .last .1 .1 .1 .0) (lineIn (a .n) (a .work .now) p) (r .ensures) (g .0 .0) (g .1) ∙ same, tt)
+    (open-fault (a .line) (r .result) (r .last .1 .1 .1 .1 .0) line (r .ensures) (g .0 .0) (g .1) ∙ same, tt)
 
 same-length-2 : tie.Need-same-length-2
 same-length-2 c = search needs
 
 returns-2 : tie.Need-returns-2
 returns-2 c =
-    let a = c .before .before .before .before .before .before .before .before .args in
-    let k = a .line in
+    let asked = c .before .before .before .before in
+    let a = asked .before .before .before .before .args in
     let p = slice (a .at) (length (a .s .now)) (a .s .now) in
-    let same = line-unended (a .n) (a .work .now) p k in
-    let r = c .before .before .before .before .read-value-line in
-    (open-more k (r .result) (r .last .1 .1 .1 .0) (lineIn (a .n) (a .work .now) p) (r .ensures) (c .enum-told .given .1) ∙ same, tt)
+    let same = line-unended (a .n) (a .work .now) p (a .line) in
+    let r = asked .read-value-line in
+    let line = lineIn (a .n) (a .work .now) p in
+    (open-more (a .line) (r .result) (r .last .1 .1 .1 .1 .0) line (r .ensures) (c .enum-told .given .1) ∙ same, tt)
 
 same-length-3 : tie.Need-same-length-3
 same-length-3 c = search needs
 
 returns-3 : tie.Need-returns-3
 returns-3 c =
-    let a = c .before .before .before .before .before .before .before .before .args in
-    let k = a .line in
+    let asked = c .before .before .before .before in
+    let a = asked .before .before .before .before .args in
     let p = slice (a .at) (length (a .s .now)) (a .s .now) in
-    let same = line-unended (a .n) (a .work .now) p k in
-    let r = c .before .before .before .before .read-value-line in
-    (open-closed k (r .result) (r .last .1 .1 .1 .0) (lineIn (a .n) (a .work .now) p) (r .ensures) (c .enum-told2 .given .1) ∙ same, tt)
+    let same = line-unended (a .n) (a .work .now) p (a .line) in
+    let r = asked .read-value-line in
+    let line = lineIn (a .n) (a .work .now) p in
+    (open-closed (a .line) (r .result) (r .last .1 .1 .1 .1 .0) line (r .ensures) (c .enum-told2 .given .1) ∙ same, tt)
 
 pub read-unended-spec : {M : Type 1} → statement M
 read-unended-spec =

@@ -9,9 +9,6 @@ use Rattle.reply.specs.Said.{marks}
 use Rattle.reply.proofs.read_value_line.Statement.{statement}
 use Rattle.reply.proofs.read_value_line.Tie as tie
 
-kind-at-requires : tie.Need-kind-at-requires
-kind-at-requires c κs = search needs
-
 enum-told : tie.Need-enum-told
 enum-told c = search needs
 
@@ -23,41 +20,46 @@ add-read-numbers c = search needs
 
 read-numbers-requires : tie.Need-read-numbers-requires
 read-numbers-requires c κs =
-    let a = c .before .before .before .before .before .before .args in
-    let p = c .before .before .before .before .before .before .pre in
-    let kind = sym (c .before .before .before .kind-at .ensures) ∙ c .before .enum-told2 .given .1 in
-    (v-room (a .s .now) (a .from) (a .to) (p .1) kind, p .1, p .2)
+    let start = c .before .before .before .before .before in
+    let a = start .args in
+    let (_, to-fits, room, kind) = start .pre in
+    (v-room (a .s .now) (a .from) (a .to) to-fits (sym kind ∙ c .before .enum-told2 .given .1), to-fits, room)
 
 returns : tie.Need-returns
 returns c =
-    let a = c .before .before .before .before .before .args in
+    let start = c .before .before .before .before in
+    let a = start .args in
     let p = slice (a .from) (a .to) (a .s .now) in
-    let k = c .before .before .kind-at in
-    ap (says (a .n) (a .work .now) p) (sym (c .enum-told .given .1) ∙ k .ensures) ∙ line-kind (a .n) (a .work .now) p
+    ap (says (a .n) (a .work .now) p) (sym (c .enum-told .given .1) ∙ start .pre .3) ∙ line-kind (a .n) (a .work .now) p
 
 same-length : tie.Need-same-length
 same-length c = search needs
 
 returns-2 : tie.Need-returns-2
 returns-2 c =
-    let a = c .before .before .before .before .before .before .before .before .before .args in
+    let told = c .before .before .before .before in
+    let start = told .before .before .before .before in
+    let a = start .args in
     let p = slice (a .from) (a .to) (a .s .now) in
-    let k = c .before .before .before .before .before .before .kind-at in
-    let words = c .before .before .read-numbers .ensures ∙ ap (λ l. numbersIn marks (a .n) (a .work .now) (cut 32 l)) (behind (a .s .now) (a .from) (a .to)) in
-    words ∙ ap (says (a .n) (a .work .now) p) (sym (c .before .before .before .before .enum-told2 .given .1) ∙ k .ensures) ∙ line-kind (a .n) (a .work .now) p
+    let words = ap (λ l. numbersIn marks (a .n) (a .work .now) (cut 32 l)) (behind (a .s .now) (a .from) (a .to)) in
+    c .before .before .read-numbers .ensures
+    ∙ words
+    ∙ ap (says (a .n) (a .work .now) p) (sym (told .enum-told2 .given .1) ∙ start .pre .3)
+    ∙ line-kind (a .n) (a .work .now) p
 
 returns-3 : tie.Need-returns-3
 returns-3 c =
-    let a = c .before .before .before .before .args in
+    let start = c .before .before .before in
+    let a = start .args in
     let p = slice (a .from) (a .to) (a .s .now) in
-    let k = c .before .kind-at in
-    says-else (a .n) (a .work .now) p (k .result) (c .match .keys3) ∙ ap (says (a .n) (a .work .now) p) (k .ensures) ∙ line-kind (a .n) (a .work .now) p
+    says-else (a .n) (a .work .now) p (a .kind) (c .match .keys3)
+    ∙ ap (says (a .n) (a .work .now) p) (start .pre .3)
+    ∙ line-kind (a .n) (a .work .now) p
 
 pub read-value-line-spec : {M : Type 1} → statement M
 read-value-line-spec =
     tie.close
     (tie.spec
-    kind-at-requires
     enum-told
     enum-told-2
     add-read-numbers

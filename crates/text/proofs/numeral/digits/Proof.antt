@@ -3,8 +3,8 @@ use Prim.Native.Nat.{_+_, _≤_}
 use mathlib.Core.Path.{_≡_}
 use native.Mathlib.Omega.{arith}
 use lib.ListN.{length}
-use Rattle.text.specs.Numerals.{numeral}
-use Rattle.text.proofs.NumeralLaws.{length-small, length-two, length-three, length-four, length-past}
+use Rattle.lists.specs.Numerals.{numeral}
+use Rattle.lists.proofs.NumeralLaws.{length-small, length-two, length-three, length-four, length-past}
 use borrow.Author.Needs.{needs}
 use Rattle.text.proofs.numeral.digits.Statement.{statement}
 use Rattle.text.proofs.numeral.digits.Tie as tie

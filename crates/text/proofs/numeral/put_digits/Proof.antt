@@ -4,8 +4,8 @@ use mathlib.Core.Path.{_≡_, _∙_}
 use native.Mathlib.Omega.{arith}
 use lib.ListN.{length, length-set}
 use Rattle.lists.specs.Writing.{write}
-use Rattle.text.specs.Numerals.{numeral}
-use Rattle.text.proofs.NumeralLaws.{length-some, length-more}
+use Rattle.lists.specs.Numerals.{numeral}
+use Rattle.lists.proofs.NumeralLaws.{length-some, length-more}
 use Rattle.text.proofs.DigitLaws.{digit-next, digit-last}
 use borrow.Author.Needs.{needs}
 use Rattle.text.proofs.numeral.put_digits.Statement.{statement}

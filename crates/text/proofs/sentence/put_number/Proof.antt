@@ -1,11 +1,11 @@
 -- The digits are put so that they end where the bytes of the number do, at most 20.
-use Rattle.text.proofs.NumeralLaws.{length-word}
+use Rattle.lists.proofs.NumeralLaws.{length-word}
 use Prim.Native.Nat.{ℕ, _+_, _-_}
 use mathlib.Core.Path.{_≡_, _∙_, ap}
 use native.Mathlib.Omega.{arith}
 use lib.ListN.{length}
 use Rattle.lists.specs.Writing.{write}
-use Rattle.text.specs.Numerals.{numeral}
+use Rattle.lists.specs.Numerals.{numeral}
 use borrow.Author.Needs.{needs}
 use Rattle.text.proofs.sentence.put_number.Statement.{statement}
 use Rattle.text.proofs.sentence.put_number.Tie as tie

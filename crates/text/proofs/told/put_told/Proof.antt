@@ -6,7 +6,7 @@ use native.Mathlib.Omega.{arith}
 use lib.IntN.{natAbs}
 use lib.ListN.{length, length-set}
 use Rattle.lists.specs.Writing.{write}
-use Rattle.text.specs.Numerals.{numeral}
+use Rattle.lists.specs.Numerals.{numeral}
 use Rattle.text.proofs.SignLaws.{back, tested}
 use Rattle.text.proofs.ToldLaws.{length-told, zero-not-less, digits-length, put-zero, put-more, put-less}
 use borrow.Author.Needs.{needs}

@@ -4,8 +4,8 @@ use mathlib.Core.Bool.{true, false}
 use native.Mathlib.Omega.{arith}
 use lib.IntN.{natAbs}
 use lib.ListN.{length}
-use Rattle.text.specs.Numerals.{numeral}
-use Rattle.text.proofs.NumeralLaws.{length-most}
+use Rattle.lists.specs.Numerals.{numeral}
+use Rattle.lists.proofs.NumeralLaws.{length-most}
 use Rattle.text.proofs.SignLaws.{back, tested, size-small}
 use Rattle.text.proofs.ToldLaws.{length-less, length-not-less}
 use borrow.Author.Needs.{needs}

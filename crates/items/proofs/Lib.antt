@@ -1,0 +1,2 @@
+-- The laws of a name that is looked up.
+pub mod ItemLaws

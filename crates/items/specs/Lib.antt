@@ -1,0 +1,2 @@
+-- A name of a lemma, as a field.
+pub mod Items

@@ -1,0 +1,2 @@
+-- A line of a reply.
+pub mod Lines
