@@ -129,7 +129,10 @@ fn least(a: usize, b: usize) -> usize
 
 // The same by way of lent numbers, which hold anything afterwards.
 fn put_piece(j: Job, c: usize, numbers: &mut [i32], out: &mut [u8]) -> Piece
-    ensures { λ r. ⌜ PieceText (nextPiece j c (pieceRoom (length (now (numbers .entry))) (length (now (out .entry))))) (now (out .entry)) r (now (out .exit)) ⌝ }
+    ensures { λ r. ⌜
+        PieceText (nextPiece j c (pieceRoom (length (now (numbers .entry))) (length (now (out .entry)))))
+        (now (out .entry)) r (now (out .exit))
+        ⌝ }
 {
     let room = least(numbers.len(), out.len() / Piece::NUMBER);
     let Written::Piece(clauses, n) = cnf::clauses(j, c, &mut numbers[..room]) else {
@@ -147,7 +150,10 @@ fn put_piece(j: Job, c: usize, numbers: &mut [i32], out: &mut [u8]) -> Piece
 
 // The text of whole clauses from clause number c on, as many as the buffer holds.
 pub fn next_piece(j: Job, c: usize, out: &mut [u8]) -> Piece
-    ensures { λ r. ⌜ PieceText (nextPiece j c (pieceRoom pieceNumbers (length (now (out .entry))))) (now (out .entry)) r (now (out .exit)) ⌝ }
+    ensures { λ r. ⌜
+        PieceText (nextPiece j c (pieceRoom pieceNumbers (length (now (out .entry)))))
+        (now (out .entry)) r (now (out .exit))
+        ⌝ }
 {
     let mut numbers = [0i32; Piece::NUMBERS];
     put_piece(j, c, &mut numbers, out)
