@@ -23,7 +23,7 @@ use Rattle.program.specs.ProgramLine as program-line
 use Rattle.program.specs.Program as program
 use Rattle.parse.specs.Answers.{withoutLemmas, by}
 use Rattle.parse.specs.Labels as labels
-use Rattle.parse.specs.Lemmas as lemmas
+use Rattle.parse.specs.Lemmas.{lemmaLines}
 use Rattle.parse.specs.Reading.{fromLemmas, reading}
 use Rattle.parse.proofs.Examples.{bytes, oneBit}
 
@@ -37,8 +37,7 @@ unfolding bytes every all within each passing first firstOf bothCritical cut upT
     program-line.isLemmas program-line.isComment program-line.stepped program-line.programLine program-line.pick program-line.whole
     program.follow program.program program.opened program.fromLine1 program.programOf program.whole
     withoutLemmas by labels.targetOf labels.aim labels.enterTo labels.enterOther labels.on labels.linkStep labels.link labels.started
-    labels.atLemmas lemmas.filled lemmas.words lemmas.bare lemmas.itemIn lemmas.named lemmas.lemma lemmas.whole lemmas.lemmaLine
-    lemmas.lemmaLines fromLemmas reading
+    labels.atLemmas lemmaLines fromLemmas reading
     exclusion.exclusion exclusion.excluding numbering.helpersFor numbering.pairsBelow numbering.helpers numbering.item numbering.turn
     numbering.helper numbering.difference table.actionOf table.process table.action table.ownBelow table.lemma
     clauses.someStep clauses.excludes clauses.leads clauses.turns clauses.assigning clauses.assignments clauses.variables
