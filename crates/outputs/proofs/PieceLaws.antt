@@ -27,7 +27,7 @@ use Rattle.cnf.proofs.PieceLaws.{no-refusal}
 use Rattle.pieces.proofs.Joined.{flat-append, all-clauses}
 use Rattle.text.specs.declared.Texted.{Texted}
 use Rattle.text.specs.Texts.{texted, withTexts}
-use Rattle.text.specs.Dimacs.{numberText, numbersText}
+use Rattle.text.specs.Dimacs.{numberRoom, numberText, numbersText}
 use Rattle.text.proofs.AllTexts.{texts-counted, numbers-are, numbers-append}
 use Rattle.outputs.specs.declared.dimacs.Piece.{Piece}
 use Rattle.outputs.specs.Dimacs.{clauseText, nextPiece, PieceText}
@@ -56,8 +56,8 @@ module _ (J : Job) (c : ℕ) (old new : List ℤ) (w : Written) (given : (answer
       go zero h = let z : _≡_ {A = ℕ} 0 1 = cc in absurd (omega arith)
       go (suc x) h = rw (ne-eqb (suc x) 0 (λ e. omega arith))
 
-  pub piece-given : (k n : ℕ) → w ≡ Given k n
-      → (k ≡ length (nextPiece J c (length old))) × (n ≡ length (flat (nextPiece J c (length old)))) × (new ≡ write old 0 (flat (nextPiece J c (length old))))
+  pub piece-given : (k n : ℕ) → w ≡ Given k n → let cs = nextPiece J c (length old) in
+      (k ≡ length cs) × (n ≡ length (flat cs)) × (new ≡ write old 0 (flat cs))
   unfolding written bufferAfter nextPiece
   piece-given k n e = go (refusal J c (length old)) (sym (ap answerOf e) ∙ given .0) (given .1)
     where
@@ -87,8 +87,10 @@ module _ (J : Job) (c : ℕ) (old new : List ℤ) (w : Written) (given : (answer
     -- and their text is that of the clauses
     pub piece-text : (rest : List ℤ) (out out′ : List ℕ) (t : Texted)
         → let xs = take n (new ++ rest) in
-        ((t ≡ texted (length xs) (numberText xs) out) × (out′ ≡ withTexts (length xs) (numberText xs) out)) × (length xs * 12 ≤ length out → t .count ≡ length xs)
-        → length old * 12 ≤ length out → PieceText (nextPiece J c (length old)) out (record { clauses = k; length = t .bytes }) out′
+        ((t ≡ texted (length xs) (numberText xs) out) × (out′ ≡ withTexts (length xs) (numberText xs) out))
+        × (length xs * numberRoom ≤ length out → t .count ≡ length xs)
+        → length old * numberRoom ≤ length out
+        → PieceText (nextPiece J c (length old)) out (record { clauses = k; length = t .bytes }) out′
     piece-text rest out out′ t (said, counts) room =
         let (j, i, h) = piece-given k n e in
         let xs : List ℤ = take n (new ++ rest) in
@@ -98,7 +100,8 @@ module _ (J : Job) (c : ℕ) (old new : List ℤ) (w : Written) (given : (answer
         record { clauses = j; bytes = all .0 ∙ ap length same; holds = all .1 ∙ ap (write out 0) same }
 
 -- the text lies in the buffer
-pub piece-held : {cs : List Clause} {old new : List ℕ} {p : Piece} → PieceText cs old p new → (p .length ≤ length new) × (p .length ≡ length (take (p .length) new))
+pub piece-held : {cs : List Clause} {old new : List ℕ} {p : Piece} → PieceText cs old p new
+    → (p .length ≤ length new) × (p .length ≡ length (take (p .length) new))
 piece-held {cs} {old} {new} {p} h = written-within old new (clauseText cs) (p .length) (h .bytes) (h .holds)
 
 -- ---- the loop over the pieces: each has a clause, and no more than are left

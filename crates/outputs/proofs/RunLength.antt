@@ -20,7 +20,7 @@ use Rattle.job.specs.RunToValues.{groupByte}
 use Rattle.job.specs.Fitness.{fit}
 use Rattle.job.proofs.FitnessLaws.{fit-sizes}
 use Rattle.readoff.proofs.ReadingLaws.{state-at, length-group}
-use Rattle.text.specs.RunText.{runLine}
+use Rattle.text.specs.RunText.{runLineRoom, runLine}
 use Rattle.text.proofs.LengthLaws.{each-length, line-length}
 use Rattle.outputs.specs.Show.{shownRoom}
 
@@ -56,7 +56,8 @@ module _ (P : Program) (values old : List ℕ) where
         let within : i < length p = omega (arith, rows (suc (r P)) (omega arith), row-fits t (r P) (groupLength P) l) in
         let k : suc (suc x) < length (g t) = omega (arith, length-group P values t l) in
         let q : num bytes i ≡ getD (g t) (suc (suc x)) 0 =
-        List·getD-append p (drop (0 + length p) old) 0 i within ∙ ap (λ i. getD p i 0) e ∙ getD-each g (suc (r P)) t (suc (suc x)) 0 (omega arith) k in
+        List·getD-append p (drop (0 + length p) old) 0 i within ∙ ap (λ i. getD p i 0) e
+        ∙ getD-each g (suc (r P)) t (suc (suc x)) 0 (omega arith) k in
         rw q (omega (arith, bit-at x h))
 
 pub run-fits : (J : Job) → fit J ≡ true → (values old : List ℕ)
@@ -65,7 +66,9 @@ run-fits J h values old =
     let P = J .program in
     let z = fit-sizes J h in
     let bs = bytes P values old in
-    let lines = each-length (suc (r P)) (15 + n P * 7) (runLine J bs)
-    λ t l. line-length (J .labels) (J .names) (n P) (groupByte P bs t) t (omega (arith, z .bound-high)) (bit-small P values old t (omega arith)) in
-    let all = mul-le-mul {n₁ = suc (r P)} {m₁ = 15 + n P * 7} {n₂ = suc maxBound} {m₂ = 15 + maxSteps * 7} (omega (arith, z .bound-high)) (omega (arith, z .variables)) in
+    let lines = each-length (suc (r P)) (runLineRoom (n P)) (runLine J bs)
+    λ t l. line-length (J .labels) (J .names) (n P) (groupByte P bs t) t (omega (arith, z .bound-high))
+    (bit-small P values old t (omega arith)) in
+    let all = mul-le-mul {n₁ = suc (r P)} {m₁ = runLineRoom (n P)} {n₂ = suc maxBound} {m₂ = runLineRoom maxSteps}
+    (omega (arith, z .bound-high)) (omega (arith, z .variables)) in
     omega arith

@@ -17,7 +17,7 @@ use Rattle.job.specs.Answers.{gives}
 use Rattle.job.specs.Table.{r}
 use Rattle.job.specs.Numbering.{total}
 use Rattle.job.specs.Fitness.{fit}
-use Rattle.job.specs.ReadOff.{run, fault, readFault, runRead, readOff, runBytes}
+use Rattle.job.specs.ReadOff.{Reading, run, fault, readFault, runRead, readOff, runBytes}
 use Rattle.job.proofs.FitnessLaws.{fit-sizes}
 use Rattle.reply.specs.declared.Checked.{Checked}
 use Rattle.reply.specs.declared.Checked.the-variants.{Accepted, Refused}
@@ -57,10 +57,13 @@ module _ (J : Job) (fits : fit J ≡ true) (values : List ℕ) where
   read-bytes : Written-bytes (readingOff J values (zeros runRoom))
   unfolding readingOff readingFit readOff
   read-bytes =
-      rw fits (go (ltb (length values) (total P) || ltb (length (zeros runRoom)) (runLength P)) (ltb (readFault P values) (suc (suc (r P)))))
+      let short = ltb (length values) (total P) || ltb (length (zeros runRoom)) (runLength P) in
+      rw fits (go short (ltb (readFault P values) (suc (suc (r P)))))
     where
-      go : (short faulty : Bool)
-          → Written-bytes (cond short (refusal 51 0 (zeros runRoom)) (named P (cond faulty (fault (readFault P values)) (run (runRead P values))) (zeros runRoom)))
+      reads : Bool → Reading
+      reads faulty = cond faulty (fault (readFault P values)) (run (runRead P values))
+
+      go : (short faulty : Bool) → Written-bytes (cond short (refusal 51 0 (zeros runRoom)) (named P (reads faulty) (zeros runRoom)))
       go true faulty = not-written 51 0
       go false true = not-written 67 (readFault P values)
       go false false = λ e. refl

@@ -15,10 +15,10 @@ use Rattle.job.specs.Clauses.{clauses}
 use Rattle.parse.specs.Reading.{readJob}
 use Rattle.cnf.specs.Piece.{flat, piece, refusal}
 use Rattle.text.specs.Comments.{comments}
-use Rattle.text.specs.Dimacs.{numbersText}
-use Rattle.text.specs.Lines.{header}
+use Rattle.text.specs.Dimacs.{numberRoom, numbersText}
+use Rattle.text.specs.Lines.{lineRoom, header}
 use Rattle.outputs.specs.declared.dimacs.Piece.{Piece}
-use Rattle.outputs.specs.Printing.{orRefusal, lineRoom}
+use Rattle.outputs.specs.Printing.{orRefusal}
 
 -- a line for each clause: its numbers, and the 0 that closes it
 abbrev pub clauseText : List Clause → List ℕ
@@ -55,9 +55,9 @@ following text = behind (readJob text .answer) (clauses (readJob text .table))
 abbrev pub pieceNumbers : ℕ
 pieceNumbers = maxText
 
--- twelve bytes hold the text of a number
+-- the numbers that two buffers hold, one of numbers and one of their text
 abbrev pub pieceRoom : ℕ → ℕ → ℕ
-pieceRoom numbers bytes = min numbers (bytes / 12)
+pieceRoom numbers bytes = min numbers (bytes / numberRoom)
 
 -- the clauses that the clause call gives from clause c on; none where it refuses
 unfoldable pub nextPiece : Job → ℕ → ℕ → List Clause

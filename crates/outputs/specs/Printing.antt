@@ -16,10 +16,6 @@ abbrev pub orRefusal : {T : Type 0} → Answer T → (T → List ℕ) → List �
 orRefusal (gives x) text = text x
 orRefusal (refuses number place) text = refusalText number place
 
--- a line of two numbers: words of eight bytes, twenty digits each, LF
-abbrev pub lineRoom : ℕ
-lineRoom = 57
-
 -- a row of zeros
 unfoldable pub zeros : ℕ → List ℕ
 zeros n = replicate n 0

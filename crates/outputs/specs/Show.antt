@@ -1,5 +1,5 @@
--- What the second program prints of a job text and a reply (document 01, 'A job in full'): the reader's refusal, 52, the checker's refusal,
--- that of reading off, or else the run.
+-- What the second program prints of a job text and a reply (document 01, 'A job in full'): the reader's refusal, 52, the checker's
+-- refusal, that of reading off, or else the run.
 use mathlib.Core.Bool.{_||_, cond}
 use mathlib.Core.List.{List}
 use Prim.Native.Nat.{ℕ, suc, _+_, _*_}
@@ -13,7 +13,7 @@ use Rattle.job.specs.Numbering.{total}
 use Rattle.parse.specs.Reading.{readJob}
 use Rattle.reply.specs.Check.{Outcome, accepted, refused, checked}
 use Rattle.readoff.specs.ReadingOff.{readingOff}
-use Rattle.text.specs.RunText.{runLine}
+use Rattle.text.specs.RunText.{runLineRoom, runLine}
 use Rattle.outputs.specs.Printing.{refusalText, orRefusal, zeros}
 
 -- 52: 'N or reply over 32,768'
@@ -42,6 +42,6 @@ replyText J reply =
 unfoldable pub shown : List ℕ → List ℕ → List ℕ
 shown job reply = orRefusal (readJob job .answer) λ _. replyText (readJob job .table) reply
 
--- the longest text of a run: in a line a time of two digits, two steps, a bit for each variable, the turn and LF, with names of four bytes
+-- its room: r+1 lines, of n variables each
 abbrev pub shownRoom : ℕ
-shownRoom = suc maxBound * (15 + maxSteps * 7)
+shownRoom = suc maxBound * runLineRoom maxSteps

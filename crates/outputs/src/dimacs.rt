@@ -1,22 +1,23 @@
 // The first program: comments and header, and then the clauses piece by piece.
 ghost use mathlib.Core.Path.{_≡_};
 ghost use mathlib.Core.List.{_++_};
-ghost use Prim.Native.Nat.{min, _≤_};
+ghost use Prim.Native.Nat.{min, _+_, _≤_};
 ghost use lib.ListN.{length};
 ghost use Rattle.lists.specs.Writing.{write};
 ghost use Rattle.job.specs.Limits.{maxText};
+ghost use Rattle.put.specs.Put.{Put};
 ghost use Rattle.text.specs.Comments.{comments};
-ghost use Rattle.text.specs.Lines.{header};
+ghost use Rattle.text.specs.Lines.{lineRoom, header};
 ghost use Rattle.parse.specs.Reading.{readJob};
 ghost use Rattle.outputs.specs.Printing.{Holds};
 ghost use Rattle.outputs.specs.Dimacs.{openingRoom, opened, following, pieceNumbers, pieceRoom, nextPiece, PieceText};
 use super::header::header_of;
-use super::line::LINE;
 use super::line::put_refusal;
 use cnf::Written;
 use job::Job;
 use parse::Verdict;
 use text::Printed;
+use text::Texted;
 
 // What is printed first, and its length, with zeros behind it; the table; and how many clauses follow.
 pub struct Opened {
@@ -28,7 +29,7 @@ pub struct Opened {
 
 impl Opened {
     // Comments are at most twice as long as the text.
-    pub const TEXT: usize = 2 * Job::TEXT + LINE;
+    pub const TEXT: usize = 2 * Job::TEXT + Printed::LINE;
 }
 
 // The same without the text.
@@ -38,6 +39,28 @@ struct Begun {
     clauses: usize,
 }
 
+fn put_comments(out: &mut [u8], text: &[u8]) -> usize
+    requires { ⌜ length (comments (now text)) ≤ length (now out) ⌝ }
+    ensures { λ r. ⌜
+        Put (length (comments (now (text .entry)))) (now (out .entry)) 0 (comments (now (text .entry))) r (now (out .exit))
+        ⌝ }
+{
+    let Printed::Bytes(n) = text::comment_text(text, out) else {
+        return 0;
+    };
+    n
+}
+
+fn put_header(out: &mut [u8], at: usize, variables: usize, clauses: usize) -> usize
+    requires { ⌜ at + lineRoom ≤ length (now out) ⌝ }
+    ensures { λ r. ⌜ Put lineRoom (now (out .entry)) at (header variables clauses) r (now (out .exit)) ⌝ }
+{
+    let Printed::Bytes(n) = text::header_text(variables, clauses, &mut out[at..]) else {
+        return at;
+    };
+    at + n
+}
+
 fn put_before(out: &mut [u8], text: &[u8], variables: usize, clauses: usize) -> usize
     requires { ⌜ (length (now text) ≤ maxText) × (openingRoom ≤ length (now out)) ⌝ }
     ensures { λ r. ⌜
@@ -45,13 +68,8 @@ fn put_before(out: &mut [u8], text: &[u8], variables: usize, clauses: usize) -> 
         × (now (out .exit) ≡ write (now (out .entry)) 0 (comments (now (text .entry)) ++ header variables clauses))
         ⌝ }
 {
-    let Printed::Bytes(a) = text::comment_text(text, &mut *out) else {
-        return 0;
-    };
-    let Printed::Bytes(b) = text::header_text(variables, clauses, &mut out[a..]) else {
-        return 0;
-    };
-    a + b
+    let end = put_comments(&mut *out, text);
+    put_header(out, end, variables, clauses)
 }
 
 fn put_opening(out: &mut [u8], text: &[u8]) -> Begun
@@ -68,12 +86,12 @@ fn put_opening(out: &mut [u8], text: &[u8]) -> Begun
     let verdict = read.verdict;
     match verdict {
         Verdict::Accepted => {
-            let h = header_of(job);
-            let length = put_before(out, text, h.variables, h.clauses);
+            let header = header_of(job);
+            let length = put_before(out, text, header.variables, header.clauses);
             Begun {
                 length,
                 job,
-                clauses: h.clauses,
+                clauses: header.clauses,
             }
         }
         Verdict::Refused(refusal) => {
@@ -113,12 +131,10 @@ pub struct Piece {
 }
 
 impl Piece {
-    // The numbers of a piece: any other room gives the same text in the end.
+    // The numbers of a piece: as many as a text has bytes; with any other room the pieces joined are the same.
     const NUMBERS: usize = Job::TEXT;
-    // A sign, ten digits, and the byte behind them.
-    const NUMBER: usize = 12;
 
-    pub const TEXT: usize = Piece::NUMBER * Piece::NUMBERS;
+    pub const TEXT: usize = Texted::NUMBER * Piece::NUMBERS;
 }
 
 fn least(a: usize, b: usize) -> usize
@@ -127,24 +143,24 @@ fn least(a: usize, b: usize) -> usize
     if a < b { a } else { b }
 }
 
-// The same by way of lent numbers, which hold anything afterwards.
+// A piece by way of lent numbers, which hold anything afterwards.
 fn put_piece(j: Job, c: usize, numbers: &mut [i32], out: &mut [u8]) -> Piece
     ensures { λ r. ⌜
         PieceText (nextPiece j c (pieceRoom (length (now (numbers .entry))) (length (now (out .entry)))))
         (now (out .entry)) r (now (out .exit))
         ⌝ }
 {
-    let room = least(numbers.len(), out.len() / Piece::NUMBER);
+    let room = least(numbers.len(), out.len() / Texted::NUMBER);
     let Written::Piece(clauses, n) = cnf::clauses(j, c, &mut numbers[..room]) else {
         return Piece {
             clauses: 0,
             length: 0,
         };
     };
-    let t = text::numbers_text(&numbers[..n], out);
+    let texted = text::numbers_text(&numbers[..n], out);
     Piece {
         clauses,
-        length: t.bytes,
+        length: texted.bytes,
     }
 }
 

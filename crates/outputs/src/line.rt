@@ -3,13 +3,9 @@ ghost use mathlib.Core.Path.{_≡_};
 ghost use Prim.Native.Nat.{_≤_};
 ghost use lib.ListN.{length};
 ghost use Rattle.lists.specs.Writing.{write};
-ghost use Rattle.text.specs.Lines.{refused};
-ghost use Rattle.outputs.specs.Printing.{lineRoom};
+ghost use Rattle.text.specs.Lines.{lineRoom, refused};
 use job::Refusal;
 use text::Printed;
-
-// A line of two numbers: words of eight bytes, twenty digits each, LF.
-pub(crate) const LINE: usize = 57;
 
 pub(crate) fn put_refusal(out: &mut [u8], refusal: Refusal) -> usize
     requires { ⌜ lineRoom ≤ length (now out) ⌝ }

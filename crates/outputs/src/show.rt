@@ -25,11 +25,11 @@ impl Shown {
     // 52: the largest N and the longest reply.
     pub const MOST: usize = 32768;
 
-    pub const REFUSED: u8 = 52;
+    pub const TOO_LARGE: u8 = 52;
     // The bytes of a run.
     const RUN: usize = (Job::BOUND + 1) * (Job::STEPS + 3);
-    // A line: a time of two digits, two steps, a bit for each variable, the turn and LF, with names of four bytes.
-    const LINE: usize = 15 + 7 * Job::STEPS;
+    // A line of a run: a time of two digits, two steps, a bit for each variable, the turn, LF; a name has four bytes at most.
+    const LINE: usize = 2 + 2 * 5 + Job::STEPS * 7 + 2 + 1;
 
     pub const TEXT: usize = (Job::BOUND + 1) * Shown::LINE;
 }
@@ -45,8 +45,8 @@ fn put_run(out: &mut [u8], j: Job, values: &[u8]) -> usize
     let mut run = [0u8; Shown::RUN];
     match readoff::read_off(j, values, &mut run) {
         Told::Written => {
-            let t = text::run_text(j, &run, out);
-            t.bytes
+            let lines = text::run_text(j, &run, out);
+            lines.bytes
         }
         Told::Refused(refusal) => put_refusal(out, refusal),
     }
@@ -60,15 +60,15 @@ fn put_reply(out: &mut [u8], j: Job, reply: &[u8]) -> usize
         × (now (out .exit) ≡ write (now (out .entry)) 0 (replyText j (now (reply .entry))))
         ⌝ }
 {
-    let too_many = Refusal {
-        number: Shown::REFUSED,
+    let too_large = Refusal {
+        number: Shown::TOO_LARGE,
         place: 0,
     };
     if Shown::MOST < header_of(j).variables {
-        return put_refusal(out, too_many);
+        return put_refusal(out, too_large);
     }
     if Shown::MOST < reply.len() {
-        return put_refusal(out, too_many);
+        return put_refusal(out, too_large);
     }
     let mut values = [0u8; Shown::MOST];
     match reply::check(j, reply, &mut values) {

@@ -7,6 +7,7 @@ ghost use lib.ListN.{length};
 ghost use Rattle.job.specs.Clauses.{clauses};
 ghost use Rattle.job.specs.Fitness.{fit};
 ghost use Rattle.cnf.specs.Piece.{leastRoom};
+ghost use Rattle.text.specs.Dimacs.{numberRoom};
 use job::Job;
 use libc::STDIN_FILENO;
 use libc::STDOUT_FILENO;
@@ -16,7 +17,7 @@ use outputs::dimacs::opening;
 
 // Piece by piece while clauses are left. A piece is never empty, so that the loop ends at the last clause alone.
 fn print_pieces(j: Job, count: usize, text: &mut [u8])
-    requires { ⌜ (fit j ≡ true) × (count ≡ length (clauses j)) × (leastRoom * 12 ≤ length (now text)) ⌝ }
+    requires { ⌜ (fit j ≡ true) × (count ≡ length (clauses j)) × (leastRoom * numberRoom ≤ length (now text)) ⌝ }
 {
     let mut left = count;
     while 0 < left {

@@ -21,9 +21,9 @@ use Rattle.lists.proofs.NumeralLaws.{length-few, length-small, length-word}
 use Rattle.job.specs.declared.Refusal.{Refusal}
 use Rattle.job.specs.Table.{n}
 use Rattle.put.specs.Names.{nameAt}
-use Rattle.text.specs.Dimacs.{told}
-use Rattle.text.specs.Lines.{sentence, header, refused}
-use Rattle.text.specs.RunText.{word, bitText, turnText, stepsText, lineText}
+use Rattle.text.specs.Dimacs.{told, numberRoom}
+use Rattle.text.specs.Lines.{sentence, lineRoom, header, refused}
+use Rattle.text.specs.RunText.{word, bitText, turnText, stepsText, lineText, runLineRoom}
 use Rattle.text.proofs.SignLaws.{size-small}
 use Rattle.text.proofs.ToldLaws.{length-less, length-not-less}
 
@@ -37,19 +37,19 @@ sentence-length first x second y h k =
     let b = length-word y k in
     simp length-append (omega arith)
 
-pub header-length : (variables clauses : ℕ) → variables < 2 ^ 64 → clauses < 2 ^ 64 → length (header variables clauses) ≤ 57
+pub header-length : (variables clauses : ℕ) → variables < 2 ^ 64 → clauses < 2 ^ 64 → length (header variables clauses) ≤ lineRoom
 header-length variables clauses h k = omega (arith, sentence-length (112 ∷ 32 ∷ 99 ∷ 110 ∷ 102 ∷ 32 ∷ []) variables (32 ∷ []) clauses h k)
 
-pub refused-length : (f : Refusal) → f .number < 2 ^ 64 → f .place < 2 ^ 64 → length (refused f) ≤ 57
+pub refused-length : (f : Refusal) → f .number < 2 ^ 64 → f .place < 2 ^ 64 → length (refused f) ≤ lineRoom
 refused-length f h k =
     omega (arith, sentence-length (114 ∷ 101 ∷ 102 ∷ 117 ∷ 115 ∷ 101 ∷ 100 ∷ 32 ∷ []) (f .number) (32 ∷ 97 ∷ 116 ∷ 32 ∷ []) (f .place) h k)
 
 -- ---- a number of a clause, of 32 bits
 
-pub told-length : (z : ℤ) → SFits w32 z → length (told z) ≤ 12
+pub told-length : (z : ℤ) → SFits w32 z → length (told z) ≤ numberRoom
 told-length z h = go (split (ltZ z (pos 0))) (length-few 9 (natAbs z) (omega (arith, size-small z h)))
   where
-    go : (ltZ z (pos 0) ≡ true) ⊎ (ltZ z (pos 0) ≡ false) → length (numeral (natAbs z)) ≤ 10 → length (told z) ≤ 12
+    go : (ltZ z (pos 0) ≡ true) ⊎ (ltZ z (pos 0) ≡ false) → length (numeral (natAbs z)) ≤ 10 → length (told z) ≤ numberRoom
     go (inl e) k = omega (arith, length-less z e)
     go (inr e) k = omega (arith, length-not-less z e)
 
@@ -96,7 +96,7 @@ steps-length labels group t h =
     simp length-append (omega arith)
 
 pub line-length : (labels names : List ℕ) (n : ℕ) (group : ℕ → ℕ) (t : ℕ) → t < 100 → ((x : ℕ) → x < n → group (2 + x) < 10)
-    → length (lineText labels names n group t) ≤ 15 + n * 7
+    → length (lineText labels names n group t) ≤ runLineRoom n
 unfolding lineText
 line-length labels names n group t h bits =
     let a = steps-length labels group t h in

@@ -38,6 +38,10 @@ unfoldable pub lineText : List ℕ → List ℕ → ℕ → (ℕ → ℕ) → �
 lineText labels names n group t =
     stepsText labels group t ++ bitsText names n group ++ turnText (group (2 + n)) ++ (lf ∷ [])
 
+-- its room in a run with n variables: a time of two digits, two steps, the bits, the turn, LF; a name has four bytes at most
+abbrev pub runLineRoom : ℕ → ℕ
+runLineRoom n = 2 + 5 + 5 + n * 7 + 2 + 1
+
 -- byte i of the group of time t, as `groupByte` has it, of n variables
 abbrev pub groupOf : ℕ → List ℕ → ℕ → ℕ → ℕ
 groupOf n bs t i = num bs (t * (n + 3) + i)

@@ -9,7 +9,7 @@ ghost use mathlib.Core.Path.{_≡_};
 ghost use Prim.Native.Nat.{_*_, _≤_};
 ghost use lib.ListN.{length};
 ghost use Rattle.text.specs.Texts.{texted, withTexts};
-ghost use Rattle.text.specs.Dimacs.{numberText};
+ghost use Rattle.text.specs.Dimacs.{numberRoom, numberText};
 ghost use Rattle.text.specs.Whole.{printed, withText};
 ghost use Rattle.text.specs.Lines.{header, refused};
 ghost use Rattle.text.specs.RunText.{runLine, runLines};
@@ -36,10 +36,20 @@ pub enum Printed {
     Short,
 }
 
-// The text of clauses: whole numbers while the next one fits. Twelve bytes hold any number, so that a buffer of as many for each holds all.
+impl Texted {
+    // A number of 32 bits: a sign, ten digits, the byte behind them.
+    pub const NUMBER: usize = 12;
+}
+
+impl Printed {
+    // A header or a refusal: words of at most eight bytes, twenty digits each, LF.
+    pub const LINE: usize = 57;
+}
+
+// The text of clauses: whole numbers while the next one fits. A buffer of as many bytes a number as the longest one takes holds all.
 pub fn numbers_text(numbers: &[i32], out: &mut [u8]) -> Texted
     ensures { λ r. ⌜ (r ≡ texted (length (now (numbers .entry))) (numberText (now (numbers .entry))) (now (out .entry))) × (now (out .exit) ≡ withTexts (length (now (numbers .entry))) (numberText (now (numbers .entry))) (now (out .entry))) ⌝ }
-    ensures { λ r. ⌜ (length (now (numbers .entry)) * 12 ≤ length (now (out .entry)) → r .count ≡ length (now (numbers .entry))) ⌝ }
+    ensures { λ r. ⌜ (length (now (numbers .entry)) * numberRoom ≤ length (now (out .entry)) → r .count ≡ length (now (numbers .entry))) ⌝ }
 {
     let mut count: usize = 0;
     let mut bytes: usize = 0;
@@ -71,7 +81,7 @@ fn give(text: &[u8], out: &mut [u8]) -> Printed
 pub fn header_text(variables: usize, clauses: usize, out: &mut [u8]) -> Printed
     ensures { λ r. ⌜ (r ≡ printed (header variables clauses) (now (out .entry))) × (now (out .exit) ≡ withText (header variables clauses) (now (out .entry))) ⌝ }
 {
-    let mut line = [0u8; 57];
+    let mut line = [0u8; Printed::LINE];
     let end = put_sentence(&mut line, b"p cnf ", variables, b" ", clauses);
     give(&line[..end], out)
 }
@@ -80,7 +90,7 @@ pub fn header_text(variables: usize, clauses: usize, out: &mut [u8]) -> Printed
 pub fn refusal_text(refusal: Refusal, out: &mut [u8]) -> Printed
     ensures { λ r. ⌜ (r ≡ printed (refused refusal) (now (out .entry))) × (now (out .exit) ≡ withText (refused refusal) (now (out .entry))) ⌝ }
 {
-    let mut line = [0u8; 57];
+    let mut line = [0u8; Printed::LINE];
     let end = put_sentence(
         &mut line,
         b"refused ",

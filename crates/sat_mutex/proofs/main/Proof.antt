@@ -4,54 +4,39 @@ use Rattle.outputs.proofs.ReadLaws.{following-some}
 use borrow.Author.Needs.{needs}
 use Rattle.sat_mutex.proofs.main.Statement.{statement}
 use Rattle.sat_mutex.proofs.main.Tie as tie
-use Rattle.sat_mutex.proofs.main.Reads as reads
-use Rattle.sat_mutex.proofs.main.Lts as lts
-use Rattle.io.proofs.read_full.Reads as read-full-reads
-use Rattle.io.proofs.write_all.Reads as write-all-reads
-use Rattle.outputs.proofs.dimacs.opening.Reads as opening-reads
-use Rattle.sat_mutex.proofs.print_clauses.Reads as print-clauses-reads
 
--- src/main.rt:44:41
 slice-aggregate-read-full : tie.Need-slice-aggregate-read-full
 slice-aggregate-read-full c = search needs
 
--- src/main.rt:44:9
 read-full-requires : tie.Need-read-full-requires
 read-full-requires c κs = search needs
 
--- src/main.rt:45:26
 array-share-prefix-space : tie.Need-array-share-prefix-space
 array-share-prefix-space c = search needs
 
--- src/main.rt:45:26
 slice-aggregate-opening : tie.Need-slice-aggregate-opening
 slice-aggregate-opening c = search needs
 
--- src/main.rt:45:9
 opening-requires : tie.Need-opening-requires
 opening-requires c κs = search needs
 
--- src/main.rt:48:37
 array-share-prefix-text : tie.Need-array-share-prefix-text
 array-share-prefix-text c = holds-within (c .before .opening .ensures .0) .0
 
--- src/main.rt:48:37
 slice-aggregate-write-all : tie.Need-slice-aggregate-write-all
 slice-aggregate-write-all c = holds-within (c .before .before .opening .ensures .0) .1
 
--- src/main.rt:48:8
 write-all-requires : tie.Need-write-all-requires
 write-all-requires c κs = search needs
 
--- src/main.rt:49:9
 print-clauses-requires : tie.Need-print-clauses-requires
-print-clauses-requires c κs = λ l. let o = c .before .before .before .before .opening .ensures in following-some _ _ _ (o .1) (o .2) l
+print-clauses-requires c κs =
+    let at-opening = c .before .before .before .before in
+    λ l. let o = at-opening .opening .ensures in following-some _ _ _ (o .1) (o .2) l
 
--- src/main.rt:41:1
 returns : tie.Need-returns
 returns c = search needs
 
--- src/main.rt:41:1
 returns-2 : tie.Need-returns-2
 returns-2 c = search needs
 

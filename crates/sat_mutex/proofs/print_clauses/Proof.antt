@@ -2,23 +2,16 @@
 use borrow.Author.Needs.{needs}
 use Rattle.sat_mutex.proofs.print_clauses.Statement.{statement}
 use Rattle.sat_mutex.proofs.print_clauses.Tie as tie
-use Rattle.sat_mutex.proofs.print_clauses.Reads as reads
-use Rattle.sat_mutex.proofs.print_clauses.Lts as lts
-use Rattle.sat_mutex.proofs.print_pieces.Reads as print-pieces-reads
 
--- src/main.rt:37:32
 slice-aggregate-print-pieces : tie.Need-slice-aggregate-print-pieces
 slice-aggregate-print-pieces c = search needs
 
--- src/main.rt:37:9
 print-pieces-requires : tie.Need-print-pieces-requires
 print-pieces-requires c κs = let f = c .before .before .pre (c .before .if1 .taken) in (f .0, f .1, search needs)
 
--- src/main.rt:32:1
 returns : tie.Need-returns
 returns c = search needs
 
--- src/main.rt:32:1
 returns-2 : tie.Need-returns-2
 returns-2 c = search needs
 

@@ -8,10 +8,6 @@ use Rattle.outputs.proofs.PieceLaws.{piece-held, next-some}
 use borrow.Author.Needs.{needs}
 use Rattle.sat_mutex.proofs.print_pieces.Statement.{statement}
 use Rattle.sat_mutex.proofs.print_pieces.Tie as tie
-use Rattle.sat_mutex.proofs.print_pieces.Reads as reads
-use Rattle.sat_mutex.proofs.print_pieces.Lts as lts
-use Rattle.io.proofs.write_all.Reads as write-all-reads
-use Rattle.outputs.proofs.dimacs.next_piece.Reads as next-piece-reads
 
 abbrev Inv-loop : tie.InvT-loop
 Inv-loop j count text₀ left₀ text left = (left ≤ count) × (length text ≡ length text₀)
@@ -28,69 +24,61 @@ some c =
     let start = at-loop .before .before in
     let a = start .args in
     let left = at-loop .loop .left in
+    let inv = at-loop .loop .inv in
+    let more = at-test .loop-test .taken in
     let piece = next-some (a .j) (start .pre .0) (a .count - left + 1) (pieceRoom pieceNumbers (length (at-loop .loop .text)))
-    (omega arith) (omega (arith, start .pre .1, at-test .loop-test .taken, at-loop .loop .inv)) (omega (arith, start .pre .2, at-loop .loop .inv)) in
+    (omega arith) (omega (arith, start .pre .1)) (omega (arith, start .pre .2)) in
     let counted = c .next-piece .ensures .clauses in
-    (omega arith, omega (arith, start .pre .1, at-loop .loop .inv))
+    (omega arith, omega (arith, start .pre .1))
 
 -- its text lies in the buffer
 held : (c : tie.After-next-piece Inv-loop μ-loop) → let new = c .next-piece .last .1 .1 .0 in let n = c .next-piece .result .length in
     (n ≤ length new) × (n ≡ length (take n new))
 held c = piece-held (c .next-piece .ensures)
 
--- src/main.rt:22:5
 loop-holds : tie.Need-loop-holds Inv-loop μ-loop
 loop-holds c = search needs
 
--- src/main.rt:23:31
 sub-next-piece : tie.Need-sub-next-piece Inv-loop μ-loop
 sub-next-piece c = search needs
 
--- src/main.rt:23:31
 add-next-piece : tie.Need-add-next-piece Inv-loop μ-loop
 add-next-piece c = search needs
 
--- src/main.rt:23:13
 next-piece-requires : tie.Need-next-piece-requires Inv-loop μ-loop
 next-piece-requires c κs = search needs
 
--- src/main.rt:25:42
 slice-reshare-prefix-write-all : tie.Need-slice-reshare-prefix-write-all Inv-loop μ-loop
 slice-reshare-prefix-write-all c = held (c .before .before) .0
 
--- src/main.rt:25:42
 slice-aggregate-write-all : tie.Need-slice-aggregate-write-all Inv-loop μ-loop
 slice-aggregate-write-all c = held (c .before .before .before) .1
 
--- src/main.rt:25:13
 write-all-requires : tie.Need-write-all-requires Inv-loop μ-loop
 write-all-requires c κs = search needs
 
--- src/main.rt:26:13
 same-length : tie.Need-same-length Inv-loop μ-loop
 same-length c = search needs
 
--- src/main.rt:26:13
 returns : tie.Need-returns Inv-loop μ-loop
 returns c = search needs
 
--- src/main.rt:28:9
 sub-left : tie.Need-sub-left Inv-loop μ-loop
-sub-left c = omega (arith, some (c .before .before .before .before .before .before))
+sub-left c =
+    let at-text = c .before .before .before .before .before in
+    omega (arith, some (at-text .before))
 
--- src/main.rt:22:5
 loop-less : tie.Need-loop-less Inv-loop μ-loop
-loop-less c = omega (arith, some (c .before .before .before .before .before .before))
+loop-less c =
+    let at-text = c .before .before .before .before .before in
+    omega (arith, some (at-text .before))
 
--- src/main.rt:22:5
 loop-again : tie.Need-loop-again Inv-loop μ-loop
 loop-again c = search needs
 
--- src/main.rt:18:1
 same-length-2 : tie.Need-same-length-2 Inv-loop μ-loop
 same-length-2 c = search needs
 
--- src/main.rt:18:1
 returns-2 : tie.Need-returns-2 Inv-loop μ-loop
 returns-2 c = search needs
 

@@ -7,7 +7,7 @@ use lib.ListN.{length, getD}
 use mir.Syntax.{w32}
 use mir.Val.{toZ, ofZ}
 use Rattle.lists.specs.Writing.{write}
-use Rattle.text.specs.Dimacs.{told, numberText}
+use Rattle.text.specs.Dimacs.{told, numberRoom, numberText}
 use Rattle.text.proofs.SignLaws.{back}
 use Rattle.text.proofs.LengthLaws.{told-length}
 use Rattle.text.proofs.TextsLaws.{Begun, begun-none, begun-length, begun-next, begun-full, begun-all}
@@ -17,7 +17,7 @@ use Rattle.text.proofs.numbers_text.Tie as tie
 
 abbrev Inv-loop : tie.InvT-loop
 Inv-loop numbers out₀ count₀ bytes₀ out count bytes =
-    (count ≤ length numbers) × Begun (numberText numbers) out₀ count bytes out × (length out ≡ length out₀) × (bytes ≤ count * 12)
+    (count ≤ length numbers) × Begun (numberText numbers) out₀ count bytes out × (length out ≡ length out₀) × (bytes ≤ count * numberRoom)
 
 abbrev μ-loop : tie.MeasureT-loop
 μ-loop numbers out₀ count₀ bytes₀ out count bytes = length numbers - count
@@ -31,8 +31,8 @@ long : (c : tie.After-told-length Inv-loop μ-loop)
     → c .told-length .result ≡ length (numberText (c .before .before .before .before .before .args .numbers .now) (c .before .before .before .loop .count))
 long c = c .told-length .ensures ∙ ap (λ (z : ℤ). length (told z)) (read (c .before))
 
--- it takes at most twelve bytes
-short : (c : tie.After-told-length Inv-loop μ-loop) → c .told-length .result ≤ 12
+-- it takes no more than its room
+short : (c : tie.After-told-length Inv-loop μ-loop) → c .told-length .result ≤ numberRoom
 short c =
     let at-loop = c .before .before .before in
     let x = getD (at-loop .before .before .args .numbers .now) (at-loop .loop .count) (pos 0) in

@@ -3,19 +3,13 @@ use Rattle.outputs.specs.Printing.{zeros}
 use borrow.Author.Needs.{needs}
 use Rattle.outputs.proofs.dimacs.opening.Statement.{statement}
 use Rattle.outputs.proofs.dimacs.opening.Tie as tie
-use Rattle.outputs.proofs.dimacs.opening.Reads as reads
-use Rattle.outputs.proofs.dimacs.opening.Lts as lts
-use Rattle.outputs.proofs.dimacs.put_opening.Reads as put-opening-reads
 
--- src/dimacs.rt:99:29
 slice-aggregate-put-opening : tie.Need-slice-aggregate-put-opening
 slice-aggregate-put-opening c = search needs
 
--- src/dimacs.rt:99:9
 put-opening-requires : tie.Need-put-opening-requires
 put-opening-requires c κs = search needs
 
--- src/dimacs.rt:91:1
 returns : tie.Need-returns
 unfolding zeros
 returns c = let put = c .before .before .put-opening .ensures in

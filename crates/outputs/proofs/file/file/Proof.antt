@@ -3,19 +3,13 @@ use Rattle.outputs.specs.Printing.{zeros}
 use borrow.Author.Needs.{needs}
 use Rattle.outputs.proofs.file.file.Statement.{statement}
 use Rattle.outputs.proofs.file.file.Tie as tie
-use Rattle.outputs.proofs.file.file.Reads as reads
-use Rattle.outputs.proofs.file.file.Lts as lts
-use Rattle.outputs.proofs.file.put_filed.Reads as put-filed-reads
 
--- src/file.rt:37:28
 slice-aggregate-put-filed : tie.Need-slice-aggregate-put-filed
 slice-aggregate-put-filed c = search needs
 
--- src/file.rt:37:9
 put-filed-requires : tie.Need-put-filed-requires
 put-filed-requires c κs = search needs
 
--- src/file.rt:33:1
 returns : tie.Need-returns
 unfolding zeros
 returns c = let put = c .before .put-filed .ensures in

@@ -6,47 +6,42 @@ use Rattle.outputs.proofs.PrintingLaws.{given-bytes, given-short}
 use borrow.Author.Needs.{needs}
 use Rattle.outputs.proofs.line.put_refusal.Statement.{statement}
 use Rattle.outputs.proofs.line.put_refusal.Tie as tie
-use Rattle.outputs.proofs.line.put_refusal.Reads as reads
-use Rattle.outputs.proofs.line.put_refusal.Lts as lts
-use Rattle.text.proofs.refusal_text.Reads as refusal-text-reads
 
--- src/line.rt:15:29
 refusal-text-requires : tie.Need-refusal-text-requires
 refusal-text-requires c κs = search needs
 
--- src/line.rt:15:24
 enum-known-n : tie.Need-enum-known-n
 enum-known-n c = search needs
 
--- src/line.rt:16:9
 enum-told : tie.Need-enum-told
 enum-told c = search needs
 
--- src/line.rt:16:9
 same-length : tie.Need-same-length
 same-length c = search needs
 
--- src/line.rt:16:9
 returns : tie.Need-returns
 returns c =
-    let start = c .before .before .before .before .before .before .before in
+    let at-refusal-text = c .before .before .before .before in
+    let start = at-refusal-text .before .before .before in
     let good = start .good in
     let f = start .args .refusal in
     let room = refused-length f (omega (arith, good)) (omega (arith, good)) in
-    absurd (given-short (refused f) (start .args .out .now) _ (omega arith) _ (c .before .before .before .before .refusal-text .ensures) (c .enum-told .given .1))
+    let told = at-refusal-text .refusal-text .ensures in
+    absurd (given-short (refused f) (start .args .out .now) _ (omega arith) _ told (c .enum-told .given .1))
 
--- src/line.rt:11:1
 same-length-2 : tie.Need-same-length-2
 same-length-2 c = search needs
 
--- src/line.rt:11:1
 returns-2 : tie.Need-returns-2
 returns-2 c =
-    let start = c .before .before .before .before .before .before .before .before in
+    let at-n = c .before in
+    let at-refusal-text = at-n .before .before .before .before in
+    let start = at-refusal-text .before .before .before in
     let good = start .good in
     let f = start .args .refusal in
     let room = refused-length f (omega (arith, good)) (omega (arith, good)) in
-    given-bytes (refused f) (start .args .out .now) _ (omega arith) _ (c .before .before .before .before .before .refusal-text .ensures) _ (c .before .n .given .1)
+    let told = at-refusal-text .refusal-text .ensures in
+    given-bytes (refused f) (start .args .out .now) _ (omega arith) _ told _ (at-n .n .given .1)
 
 pub put-refusal-spec : {M : Type 1} → statement M
 put-refusal-spec =

@@ -3,19 +3,13 @@ use Rattle.outputs.specs.Printing.{zeros}
 use borrow.Author.Needs.{needs}
 use Rattle.outputs.proofs.show.show.Statement.{statement}
 use Rattle.outputs.proofs.show.show.Tie as tie
-use Rattle.outputs.proofs.show.show.Reads as reads
-use Rattle.outputs.proofs.show.show.Lts as lts
-use Rattle.outputs.proofs.show.put_shown.Reads as put-shown-reads
 
--- src/show.rt:100:28
 slice-aggregate-put-shown : tie.Need-slice-aggregate-put-shown
 slice-aggregate-put-shown c = search needs
 
--- src/show.rt:100:9
 put-shown-requires : tie.Need-put-shown-requires
 put-shown-requires c κs = search needs
 
--- src/show.rt:96:1
 returns : tie.Need-returns
 unfolding zeros
 returns c = let put = c .before .put-shown .ensures in
