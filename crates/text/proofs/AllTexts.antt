@@ -31,12 +31,14 @@ module _ (n : ℕ) (text : ℕ → List ℕ) (old : List ℕ) (room : length (ea
       row-all fits n
       (all-of fits n λ i l. le-leb (length (each (suc i) text)) (length old) (omega (arith, longer i, parts-room text n i l)))
 
-  pub texts-all : (texted n text old ≡ record { count = n; bytes = length (each n text) }) × (withTexts n text old ≡ write old 0 (each n text))
+  pub texts-all : (texted n text old ≡ record { count = n; bytes = length (each n text) })
+      × (withTexts n text old ≡ write old 0 (each n text))
   unfolding texted withTexts
   texts-all = (rw all-fit, rw all-fit)
 
 -- the same where as many as n were counted
-pub texts-counted : (n : ℕ) (text : ℕ → List ℕ) (old new : List ℕ) (t : Texted) → (t ≡ texted n text old) × (new ≡ withTexts n text old) → t .count ≡ n
+pub texts-counted : (n : ℕ) (text : ℕ → List ℕ) (old new : List ℕ) (t : Texted)
+    → (t ≡ texted n text old) × (new ≡ withTexts n text old) → t .count ≡ n
     → (t .bytes ≡ length (each n text)) × (new ≡ write old 0 (each n text))
 unfolding texted withTexts
 texts-counted n text old new t (e, h) k =

@@ -47,7 +47,8 @@ unfolding size rows remarks
 remarks-twice (last []) = omega arith
 remarks-twice (last (b ∷ bs)) = go (isLemmas (b ∷ bs)) (remark-twice (b ∷ bs))
   where
-    go : (t : Bool) → length (remark (b ∷ bs)) ≤ 2 * length (b ∷ bs) + 2 → length (cond t [] (remark (b ∷ bs) ++ [])) ≤ 2 * length (b ∷ bs) + 2
+    go : (t : Bool) → length (remark (b ∷ bs)) ≤ 2 * length (b ∷ bs) + 2
+        → length (cond t [] (remark (b ∷ bs) ++ [])) ≤ 2 * length (b ∷ bs) + 2
     go true h = omega arith
     go false h = rw length-append (omega arith)
 remarks-twice (piece p ps) = go (isLemmas p) (remark-twice p) (remarks-twice ps)

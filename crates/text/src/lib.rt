@@ -48,8 +48,13 @@ impl Printed {
 
 // The text of clauses: whole numbers while the next one fits. A buffer of as many bytes a number as the longest one takes holds all.
 pub fn numbers_text(numbers: &[i32], out: &mut [u8]) -> Texted
-    ensures { λ r. ⌜ (r ≡ texted (length (now (numbers .entry))) (numberText (now (numbers .entry))) (now (out .entry))) × (now (out .exit) ≡ withTexts (length (now (numbers .entry))) (numberText (now (numbers .entry))) (now (out .entry))) ⌝ }
-    ensures { λ r. ⌜ (length (now (numbers .entry)) * numberRoom ≤ length (now (out .entry)) → r .count ≡ length (now (numbers .entry))) ⌝ }
+    ensures { λ r. ⌜
+        (r ≡ texted (length (now (numbers .entry))) (numberText (now (numbers .entry))) (now (out .entry)))
+        × (now (out .exit) ≡ withTexts (length (now (numbers .entry))) (numberText (now (numbers .entry))) (now (out .entry)))
+        ⌝ }
+    ensures { λ r. ⌜
+        (length (now (numbers .entry)) * numberRoom ≤ length (now (out .entry)) → r .count ≡ length (now (numbers .entry)))
+        ⌝ }
 {
     let mut count: usize = 0;
     let mut bytes: usize = 0;

@@ -27,8 +27,8 @@ read : (c : tie.After-x Inv-loop μ-loop) → let xs = c .before .before .before
     toZ w32 (ofZ w32 (getD xs (c .before .before .loop .count) (pos 0))) ≡ getD xs (c .before .before .loop .count) (pos 0)
 read c = back _ (record { sfits = c .x .given })
 
-long : (c : tie.After-told-length Inv-loop μ-loop)
-    → c .told-length .result ≡ length (numberText (c .before .before .before .before .before .args .numbers .now) (c .before .before .before .loop .count))
+long : (c : tie.After-told-length Inv-loop μ-loop) → let at-loop = c .before .before .before in
+    c .told-length .result ≡ length (numberText (at-loop .before .before .args .numbers .now) (at-loop .loop .count))
 long c = c .told-length .ensures ∙ ap (λ (z : ℤ). length (told z)) (read (c .before))
 
 -- it takes no more than its room
@@ -39,7 +39,9 @@ short c =
     omega (arith, long c, told-length x (record { sfits = c .before .x .given }))
 
 loop-holds : tie.Need-loop-holds Inv-loop μ-loop
-loop-holds c = (omega arith, begun-none (numberText (c .before .args .numbers .now)) (c .before .args .out .now), search needs, omega arith)
+loop-holds c =
+    let a = c .before .args in
+    (omega arith, begun-none (numberText (a .numbers .now)) (a .out .now), search needs, omega arith)
 
 mul-x : tie.Need-mul-x Inv-loop μ-loop
 mul-x c = search needs
@@ -82,13 +84,19 @@ loop-less : tie.Need-loop-less Inv-loop μ-loop
 loop-less c = search needs
 
 loop-again : tie.Need-loop-again Inv-loop μ-loop
-loop-again c = let a = c .before .before .before .before .before .before .before .before .before .before .args in
-    let o = c .before .before .before .before .before .before .before .before .loop in
+loop-again c =
+    let at-put-told = c .before .before in
+    let at-told-length = at-put-told .before .before .before in
+    let at-x = at-told-length .before in
+    let at-loop = at-x .before .before in
+    let a = at-loop .before .before .args in
+    let o = at-loop .loop in
     let b = o .inv .1 in
-    let n = long (c .before .before .before .before .before) in
-    let e = c .before .before .put-told .ensures ∙ ap (λ (z : ℤ). write (o .out) (o .bytes) (told z)) (read (c .before .before .before .before .before .before)) in
+    let e = at-put-told .put-told .ensures ∙ ap (λ (z : ℤ). write (o .out) (o .bytes) (told z)) (read at-x) in
+    let n = long at-told-length in
     let next = begun-next (numberText (a .numbers .now)) (a .out .now) (o .count) (o .bytes) (o .out) _ b (omega (arith, b .room)) e in
-    (omega arith, rw n next, begun-length (numberText (a .numbers .now)) (a .out .now) next, omega (arith, short (c .before .before .before .before .before)))
+    let same = begun-length (numberText (a .numbers .now)) (a .out .now) next in
+    (omega arith, rw n next, same, omega (arith, short at-told-length))
 
 same-length-2 : tie.Need-same-length-2 Inv-loop μ-loop
 same-length-2 c = search needs
@@ -96,7 +104,8 @@ same-length-2 c = search needs
 returns-2 : tie.Need-returns-2 Inv-loop μ-loop
 returns-2 c = let a = c .before .before .before .args in
     let o = c .before .loop in
-    (begun-all (numberText (a .numbers .now)) (a .out .now) (length (a .numbers .now)) (o .count) (o .bytes) (o .out) (o .inv .1) (omega arith), λ h. omega arith)
+    let xs = a .numbers .now in
+    (begun-all (numberText xs) (a .out .now) (length xs) (o .count) (o .bytes) (o .out) (o .inv .1) (omega arith), λ h. omega arith)
 
 pub numbers-text-spec : {M : Type 1} → statement M
 numbers-text-spec =
