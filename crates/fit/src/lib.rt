@@ -20,7 +20,7 @@ fn program_fits(p: Program) -> bool
     if Job::STEPS < p.steps {
         return false;
     }
-    in_range(1, Job::BOUND, p.bound) & (steps_fit(p) & starts_fit(p))
+    in_range(1, Job::BOUND, p.bound) & (steps_fit(p) & (starts_fit(p) & (p.word <= 2)))
 }
 
 // The program is tested first: then the number of items is small.

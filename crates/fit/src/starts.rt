@@ -1,4 +1,4 @@
-// Where the processes start: a step of each (99 and 98), and not both first steps critical (55).
+// Where the processes start: a step of each (99 and 98), and with a word not both first steps critical (55).
 ghost use mathlib.Core.Path.{_≡_};
 ghost use mathlib.Core.Bool.{_&&_, not};
 ghost use Prim.Native.Nat.{_≤_};
@@ -33,5 +33,5 @@ pub(crate) fn starts_fit(p: Program) -> bool
     if p.steps <= b {
         return false;
     }
-    !((p.kind[a] == 2) & (p.kind[b] == 2))
+    !((1 <= p.word) & ((p.kind[a] == 2) & (p.kind[b] == 2)))
 }

@@ -14,14 +14,16 @@ use Rattle.lists.specs.Rows.{each, tab, num}
 use Rattle.lists.specs.Tests.{all, within}
 use Rattle.lists.proofs.Logic.{split}
 use Rattle.lists.proofs.TestLaws.{passed, is-within, all-at, all-fewer}
+use Rattle.lists.proofs.PlaceLaws.{first-accepts}
 use Rattle.job.specs.declared.Job.{Job}
 use Rattle.job.specs.declared.Program.{Program}
 use Rattle.job.specs.declared.Literal.{Literal}
 use Rattle.job.specs.declared.Action.the-variants.{Maybe, Critical, Assign, If}
 use Rattle.job.specs.Limits.{maxSteps, maxLemmas, maxNames, maxBound}
 use Rattle.job.specs.Literals.{Clause}
-use Rattle.job.specs.Table.{Process, w, process, action, actionOf, itemOf, lemma}
-use Rattle.job.specs.Fitness.{larger, hasVariable, isStep, otherFits, variableFits, usedStep, unusedStep, mentioned, stepFits, stepsFit, programFits, itemFits, placeFits, lengthFits, placesFit, lemmaFits, lemmasFit, fit}
+use Rattle.job.specs.Table.{Process, w, process, action, actionOf, firstOf, firstStep, itemOf, lemma}
+use Rattle.job.specs.Fitness.{larger, hasVariable, isStep, otherFits, variableFits, usedStep, unusedStep, mentioned, stepFits, stepsFit}
+use Rattle.job.specs.Fitness.{bothStart, programFits, itemFits, placeFits, lengthFits, placesFit, lemmaFits, lemmasFit, fit}
 use Rattle.job.specs.InRange.{Below}
 use Rattle.job.proofs.Good.{Leads, Stays, Good}
 
@@ -177,6 +179,24 @@ module _ (P : Program) (z : Sizes P) where
       (variable-is c l variable)
       (other-is c other)
 
+-- ---- each process has a first step
+
+starts-is : (P : Program) → programFits P ≡ true → (p : Process) → Leads P p (firstStep P p)
+unfolding programFits bothStart firstOf process
+starts-is P h p =
+    let (_, (_, (_, (s, _)))) = passed _ h in
+    let (a, (b, _)) = passed _ s in
+    go p (ltb-true (firstOf P 1) (P .steps) a) (ltb-true (firstOf P 2) (P .steps) b)
+  where
+    is : ℕ → ℕ → Bool
+    is k c = eqb (num (P .process) c) k
+
+    go : (p : Process) → firstOf P 1 < P .steps → firstOf P 2 < P .steps → Leads P p (firstStep P p)
+    go true a b = (a, first-accepts (is 1) (P .steps) a)
+    go false a b =
+        let e = eqb-true (num (P .process) (firstOf P 2)) 2 (first-accepts (is 2) (P .steps) b) in
+        (b, ap (λ x. eqb x 1) e)
+
 -- ---- lemmas
 
 -- what the test says of lemma k
@@ -219,8 +239,9 @@ fit-lemmas J h = let (_, (c, _)) = passed _ h in leb-true (J .lemmas) maxLemmas 
 pub fit-good : (J : Job) → fit J ≡ true → Good J
 unfolding fit lemma
 fit-good J h =
-    let (_, (_, (l, _))) = passed _ h in
+    let (p, (_, (l, _))) = passed _ h in
     record {
+      starts = starts-is (J .program) p;
       steps = step-stays (J .program) (fit-sizes J h);
       lemmas = λ k i.
           let (_, _, f) = lemma-is (J .lengths) (J .items) (J .lemmas) (w (J .program)) (fit-lemmas J h) l k i in

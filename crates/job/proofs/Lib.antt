@@ -10,6 +10,7 @@ pub mod TurnLaws
 pub mod StandLaws
 pub mod Sound
 pub mod Complete
+pub mod WordLaws
 pub mod ValueLaws
 pub mod Accuracy
 pub mod Lengths

@@ -9,6 +9,7 @@ use Rattle.lists.specs.Rows.{each}
 use Rattle.lists.specs.Writing.{write}
 use Rattle.job.specs.declared.Job.{Job}
 use Rattle.job.specs.Limits.{maxSteps, maxLemmas, maxNames, maxBound}
+use Rattle.job.specs.Words.{noWord, start, crash}
 use Rattle.job.specs.Fitness.{fit}
 use Rattle.job.specs.OneBit.{oneBit}
 
@@ -38,11 +39,12 @@ value = 5
 abbrev row : Rows → ℕ → List ℕ
 row rows i = getD rows i []
 
--- with a bound, m steps, n variables, no lemma, and these bytes as names
-unfoldable pub tableOf : ℕ → ℕ → ℕ → List ℕ → Rows → Job
-tableOf bound m n bytes rows = record {
+-- with a word, a bound, m steps, n variables, no lemma, and these bytes as names
+unfoldable pub wordedTable : ℕ → ℕ → ℕ → ℕ → List ℕ → Rows → Job
+wordedTable word bound m n bytes rows = record {
   program = record {
     bound = bound;
+    word = word;
     steps = m;
     variables = n;
     process = row rows process;
@@ -58,6 +60,9 @@ tableOf bound m n bytes rows = record {
   lengths = [];
   items = [];
 }
+
+unfoldable pub tableOf : ℕ → ℕ → ℕ → List ℕ → Rows → Job
+tableOf = wordedTable noWord
 
 -- `A0 critical goto A1`, `A1 if a=0 goto A0 else A2`, `A2 b=1 goto A1`, `B0 maybe goto B0`, `B1 maybe goto B1`
 abbrev pub five : Rows
@@ -82,6 +87,10 @@ set i c x rows = write rows i (write (row rows i) (c - 1) (x ∷ []) ∷ [])
 abbrev with : ℕ → ℕ → ℕ → Job
 with i c x = tableOf 1 5 2 [] (set i c x five)
 
+-- and B0 critical as A0 is
+abbrev bothFirst : Rows
+bothFirst = set kind 4 2 five
+
 -- ---- which are fit, and which are not
 
 unfoldable pub fitTables : List Job
@@ -94,6 +103,10 @@ fitTables =
     ∷ tableOf maxBound 5 2 [] five
     ∷ tableOf 1 maxSteps 0 [] most
     ∷ oneBit 1 1 (maxNames ∷ []) (replicate maxNames (pos 3))
+    -- with each word; 'where a job may begin anywhere, two critical first steps are no fault'
+    ∷ wordedTable start 1 5 2 [] five
+    ∷ wordedTable crash 1 5 2 [] five
+    ∷ tableOf 1 5 2 [] bothFirst
     ∷ []
 
 unfoldable pub unfitTables : List Job
@@ -129,8 +142,9 @@ unfitTables =
     ∷ oneBit 1 1 (1 ∷ []) (pos 0 ∷ [])
     ∷ oneBit 1 1 (1 ∷ []) (pos 4 ∷ [])
     ∷ oneBit 1 1 (1 ∷ []) (negsuc 3 ∷ [])
-    -- 'none of 55, 98, 99 applies': B0 critical as A0 is, all steps A's, all steps B's
-    ∷ with kind 4 2
+    -- 'none of 55, 98, 99 applies': both first steps critical with a word, all steps A's, all steps B's
+    ∷ wordedTable start 1 5 2 [] bothFirst
+    ∷ wordedTable crash 1 5 2 [] bothFirst
     ∷ tableOf 1 5 2 [] (set process 4 1 (set process 5 1 five))
     ∷ tableOf 1 5 2 [] (set process 1 2 (set process 2 2 (set process 3 2 five)))
     -- 'and unused places are 0': M of an assignment, V and v of a maybe
@@ -148,6 +162,8 @@ unfitTables =
     ∷ oneBit 1 1 (1 ∷ []) (pos 1 ∷ pos 1 ∷ [])
     ∷ oneBit 1 0 (1 ∷ []) (pos 1 ∷ [])
     ∷ oneBit 1 0 [] (pos 1 ∷ [])
+    -- a third word
+    ∷ wordedTable (crash + 1) 1 5 2 [] five
     ∷ []
 
 abbrev pub Claim : Type 0

@@ -7,10 +7,11 @@ use lib.IntN.{ℤ, pos, negsuc}
 use lib.ListN.{getD}
 use Rattle.lists.specs.Rows.{num}
 use Rattle.lists.specs.Tests.{every, all, within}
-use Rattle.lists.specs.Places.{first}
 use Rattle.job.specs.declared.Job.{Job}
 use Rattle.job.specs.declared.Program.{Program}
 use Rattle.job.specs.Limits.{maxSteps, maxLemmas, maxNames, maxBound}
+use Rattle.job.specs.Table.{firstOf}
+use Rattle.job.specs.Words.{crash, asksStart}
 
 unfoldable pub larger : ℕ → ℕ → ℕ
 larger a b = cond (ltb a b) b a
@@ -75,21 +76,23 @@ module _ (P : Program) where
   unfoldable pub stepsFit : Bool
   stepsFit = every (all maxSteps stepFits ∷ eqb (P .variables) (mentioned maxSteps) ∷ [])
 
-  -- the first step of a process, by its code, or the number of steps
-  unfoldable pub firstOf : ℕ → ℕ
-  firstOf p = first (P .steps) λ c. eqb (num (P .process) c) p
-
   -- 99 and 98: a step of A, a step of B
   unfoldable pub bothStart : Bool
-  bothStart = every (ltb (firstOf 1) (P .steps) ∷ ltb (firstOf 2) (P .steps) ∷ [])
+  bothStart = every (ltb (firstOf P 1) (P .steps) ∷ ltb (firstOf P 2) (P .steps) ∷ [])
 
-  -- 55: both first steps critical
+  -- 55, 'only with a word': both first steps critical
   unfoldable pub bothCritical : Bool
-  bothCritical = eqb (num (P .kind) (firstOf 1)) 2 && eqb (num (P .kind) (firstOf 2)) 2
+  bothCritical = asksStart P && (eqb (num (P .kind) (firstOf P 1)) 2 && eqb (num (P .kind) (firstOf P 2)) 2)
 
   unfoldable pub programFits : Bool
   programFits = every (
-      leb (P .steps) maxSteps ∷ within 1 maxBound (P .bound) ∷ stepsFit ∷ bothStart ∷ not bothCritical ∷ [])
+      leb (P .steps) maxSteps
+      ∷ within 1 maxBound (P .bound)
+      ∷ stepsFit
+      ∷ bothStart
+      ∷ not bothCritical
+      ∷ leb (P .word) crash
+      ∷ [])
 
 -- ---- lemmas: 'each lemma 1 to 64 items of this job'
 

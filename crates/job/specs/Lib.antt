@@ -3,6 +3,7 @@ pub mod Limits
 pub mod Answers
 pub mod Literals
 pub mod Table
+pub mod Words
 pub mod Meaning
 pub mod Numbering
 pub mod Exclusion

@@ -61,6 +61,19 @@ module _ (f : ℕ → Bool) where
       go (yes x) g = rw (← x) (row-on n e ∙ rw h (omega arith))
       go (no x) g = let i = g (omega arith) in row-stop k (omega arith) ∙ i
 
+  -- a place below the row's end is that of a test that fails
+  pub row-fails : (n : ℕ) → passing (tab n f) < n → f (passing (tab n f)) ≡ false
+  unfolding passing
+  row-fails zero l = absurd (omega arith)
+  row-fails (suc n) l = go (ℕ-discrete (passing (tab n f)) n) (split (f n)) (row-fails n)
+    where
+      go : Dec (passing (tab n f) ≡ n) → (f n ≡ true) ⊎ (f n ≡ false) → (passing (tab n f) < n → f (passing (tab n f)) ≡ false) → f (passing (tab (suc n) f)) ≡ false
+      go (yes x) (inl y) g = let z : passing (tab (suc n) f) ≡ suc n = row-on n x ∙ rw y (omega arith) in absurd (omega arith)
+      go (yes x) (inr y) g = let z : passing (tab (suc n) f) ≡ n = row-on n x ∙ rw y (omega arith) in rw z y
+      go (no x) y g =
+          let k : passing (tab n f) < n = omega (arith, row-most n) in
+          rw (row-stop n k) (g k)
+
   -- all pass exactly when none fails
   pub row-all : (n : ℕ) → all n f ≡ true → passing (tab n f) ≡ n
   unfolding all each passing
@@ -95,6 +108,15 @@ module _ (f : ℕ → Bool) where
   pub first-found : (n k : ℕ) → first n f ≡ n → f n ≡ true → n < k → first k f ≡ n
   unfolding first
   first-found n k e h l = row-found (λ i. not (f i)) n k e (ap not h) l
+
+-- a number below n that the scan stops at is accepted
+pub first-accepts : (f : ℕ → Bool) (n : ℕ) → first n f < n → f (first n f) ≡ true
+unfolding first
+first-accepts f n l = go (split (f (first n f))) (row-fails (λ i. not (f i)) n l)
+  where
+    go : (f (first n f) ≡ true) ⊎ (f (first n f) ≡ false) → not (f (first n f)) ≡ false → f (first n f) ≡ true
+    go (inl h) k = h
+    go (inr h) k = cc
 
 pub first-same : (f g : ℕ → Bool) (n : ℕ) → ((i : ℕ) → i < n → f i ≡ g i) → first n f ≡ first n g
 unfolding first each

@@ -2,6 +2,7 @@
 use borrow.Author.Tests.{le-leb, lt-leb}
 use borrow.Author.Needs.{needs}
 use Rattle.lists.specs.Tests.{every}
+use Rattle.lists.proofs.Logic.{and-assoc}
 use Rattle.job.specs.Fitness.{programFits}
 use Rattle.fit.proofs.program_fits.Statement.{statement}
 use Rattle.fit.proofs.program_fits.Tie as tie
@@ -21,8 +22,8 @@ starts-fit-requires c κs = search needs
 
 returns-2 : tie.Need-returns-2
 unfolding programFits every
-returns-2 c = let few = le-leb _ _ (c .before .before .before .if1 .left) in
-    rw (few, c .before .before .in-range .ensures, c .before .steps-fit .ensures, c .starts-fit .ensures)
+returns-2 c = let few = le-leb _ _ (c .before .before .before .before .if1 .left) in
+    rw (few, c .before .before .before .in-range .ensures, c .before .before .steps-fit .ensures, c .before .starts-fit .ensures, and-assoc)
 
 pub program-fits-spec : {M : Type 1} → statement M
 program-fits-spec =
