@@ -17,6 +17,8 @@ pub mod Lengths
 pub mod MarkedCases
 pub mod OneBitListing
 pub mod LargerListing
+pub mod EmptyClauseListing
+pub mod FromStartListing
 pub mod Listings
 pub mod FitCases
 pub mod RunCases

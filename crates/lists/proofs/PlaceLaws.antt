@@ -67,7 +67,8 @@ module _ (f : ℕ → Bool) where
   row-fails zero l = absurd (omega arith)
   row-fails (suc n) l = go (ℕ-discrete (passing (tab n f)) n) (split (f n)) (row-fails n)
     where
-      go : Dec (passing (tab n f) ≡ n) → (f n ≡ true) ⊎ (f n ≡ false) → (passing (tab n f) < n → f (passing (tab n f)) ≡ false) → f (passing (tab (suc n) f)) ≡ false
+      go : Dec (passing (tab n f) ≡ n) → (f n ≡ true) ⊎ (f n ≡ false) → (passing (tab n f) < n → f (passing (tab n f)) ≡ false)
+          → f (passing (tab (suc n) f)) ≡ false
       go (yes x) (inl y) g = let z : passing (tab (suc n) f) ≡ suc n = row-on n x ∙ rw y (omega arith) in absurd (omega arith)
       go (yes x) (inr y) g = let z : passing (tab (suc n) f) ≡ n = row-on n x ∙ rw y (omega arith) in rw z y
       go (no x) y g =
