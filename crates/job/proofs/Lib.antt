@@ -14,6 +14,7 @@ pub mod WordLaws
 pub mod ValueLaws
 pub mod Accuracy
 pub mod Lengths
+pub mod Worded
 pub mod MarkedCases
 pub mod OneBitListing
 pub mod LargerListing

@@ -14,6 +14,7 @@ pub mod Satisfaction
 pub mod ReadOff
 pub mod RunToValues
 pub mod Accuracy
+pub mod Worded
 pub mod OneBit
 pub mod Cases
 pub mod FitCases
