@@ -1,5 +1,5 @@
 -- An accepted text is filed where the buffer is long enough: neither a refusal of the reader nor 51 comes first.
-use mathlib.Core.Path.{_≡_, ap}
+use mathlib.Core.Path.{ap}
 use mathlib.Core.List.{List}
 use Prim.Native.Nat.{ℕ}
 use borrow.Author.Tests.{le-ltb}

@@ -78,20 +78,22 @@ range-told s at e = go (within 49 57 (num s (at .column))) e
     go true e = (refl, refl)
     go false e = not-read 5 e
 
--- what is left of the line behind R
+-- what is left of the line behind R: nothing, or a word
 abbrev Left : List ℕ → ℕ → Type 0
-Left s column = (leb (length s) column || isWord (drop column s)) ≡ true
+Left s column = (length s ≤ column) ⊎ (isWord (drop column s) ≡ true)
 
 end-told : (s : List ℕ) (at : Cursor) → boundEndField s at .field ≡ Read → Left s (at .column)
 unfolding boundEndField
-end-told s at e = go (leb (length s) (at .column) || isWord (drop (at .column) s)) e
+end-told s at e = go (leb (length s) (at .column)) refl (isWord (drop (at .column) s)) refl e
   where
     n : ℕ
     n = length (drop (at .column) s)
 
-    go : (b : Bool) → pickField b (went at n) (refuse at 5) .field ≡ Read → b ≡ true
-    go true e = refl
-    go false e = not-read 5 e
+    go : (ends : Bool) → leb (length s) (at .column) ≡ ends → (word : Bool) → isWord (drop (at .column) s) ≡ word
+        → pickField (ends || word) (went at n) (refuse at 5) .field ≡ Read → Left s (at .column)
+    go true p word q e = inl (leb-true (length s) (at .column) p)
+    go false p true q e = inr q
+    go false p false q e = not-read 5 e
 
 -- how many digits R has, where it begins at a column
 abbrev width : List ℕ → ℕ → ℕ
@@ -128,22 +130,30 @@ line1-told s r word e =
     let (b, q) = fixed-told boundWord s 5 line1 f in
     let t = drop 6 s in
     let split : s ≡ boundWord ++ t = starts-split boundWord s b in
-    let told = number-told s (record { line = 1; column = 6 }) r word (ap (rest s) (sym q) ∙ g) in
+    let told = number-told s (record { line = 1; column = 6 }) r word (ap (onward s) (sym q) ∙ g) in
     (t, split, behind t (subst (λ l. Digits l 6 r word) split told))
   where
-    rest : List ℕ → Moved → FirstLine
-    rest s m =
+    onward : List ℕ → Moved → FirstLine
+    onward s m =
         after (rangeField s (m .at)) λ b.
         after (boundEndField s b) λ _.
         Bound (numberAt s (m .at .column)) (wordOf (drop (b .column) s))
 
     behind : (t : List ℕ) → Digits (boundWord ++ t) 6 r word → Digits t 0 r word
-    behind t d = go (digit (num t 1)) refl (d .left) (d .says)
+    behind t d = record { first = d .first; left = go (d .left); value = d .value; says = says (width t 0) (d .says) }
       where
-        go : (two : Bool) → digit (num t 1) ≡ two → Left (boundWord ++ t) (6 + cond two 2 1)
-            → wordOf (drop (6 + cond two 2 1) (boundWord ++ t)) ≡ word → Digits t 0 r word
-        go true p left says = record { first = d .first; left = rw p left; value = d .value; says = rw p says }
-        go false p left says = record { first = d .first; left = rw p left; value = d .value; says = rw p says }
+        rest : (n : ℕ) → drop (0 + n) t ≡ drop (6 + n) (boundWord ++ t)
+        rest n =
+            let none : 0 + n ≡ n = omega arith in
+            let six : 6 + n ≡ suc (suc (suc (suc (suc (suc n))))) = omega arith in
+            ap (λ k. drop k t) none ∙ ap (λ k. drop k (boundWord ++ t)) (sym six)
+
+        says : (n : ℕ) → wordOf (drop (6 + n) (boundWord ++ t)) ≡ word → wordOf (drop (0 + n) t) ≡ word
+        says n e = ap wordOf (rest n) ∙ e
+
+        go : Left (boundWord ++ t) (6 + width t 0) → Left t (0 + width t 0)
+        go (inl l) = inl (omega arith)
+        go (inr e) = inr (ap isWord (rest (width t 0)) ∙ e)
 
 -- ---- and the word tells what is left
 
@@ -158,19 +168,20 @@ is-told t p h =
     begins ∙ ap (λ l. t ++ l) (drop-of-length-le p {i = length t} (omega arith)) ∙ append-nil t
 
 left-told : (s : List ℕ) (column word : ℕ) → Left s column → wordOf (drop column s) ≡ word → drop column s ≡ spelling word
-unfolding wordOf
-left-told s column word left says = go (is crashWord rest) refl (is startWord rest) refl left says
+unfolding wordOf is starts
+left-told s column word (inl short) says =
+    let none : drop column s ≡ [] = drop-of-length-le s {i = column} short in
+    none ∙ ap spelling (sym (ap wordOf none) ∙ says)
+left-told s column word (inr e) says = go (is crashWord rest) refl (is startWord rest) refl e says
   where
     rest : List ℕ
     rest = drop column s
 
-    go : (c : Bool) → is crashWord rest ≡ c → (b : Bool) → is startWord rest ≡ b → (leb (length s) column || (b || c)) ≡ true
+    go : (c : Bool) → is crashWord rest ≡ c → (b : Bool) → is startWord rest ≡ b → (b || c) ≡ true
         → cond c crash (cond b start noWord) ≡ word → rest ≡ spelling word
     go true p b q l e = is-told crashWord rest p ∙ ap spelling e
     go false p true q l e = is-told startWord rest q ∙ ap spelling e
-    go false p false q l e =
-        let short : length s ≤ column = leb-true (length s) column (sym (or-false (leb (length s) column)) ∙ l) in
-        drop-of-length-le s {i = column} short ∙ ap spelling e
+    go false p false q l e = absurd (false≢true l)
 
 -- ---- and R tells it
 
@@ -199,7 +210,9 @@ record Two (t : List ℕ) (r word : ℕ) : Type 0 where
 digits-are : (t : List ℕ) (r word : ℕ) → Digits t 0 r word → One t r word ⊎ Two t r word
 unfolding within every numberAt
 digits-are [] r word d = absurd (false≢true (d .first))
-digits-are (a ∷ t) r word d = go t (digit (num t 0)) refl (d .left) (d .value) (d .says)
+digits-are (a ∷ t) r word d =
+    let z : 0 + width (a ∷ t) 0 ≡ width (a ∷ t) 0 = omega arith in
+    go t (digit (num t 0)) refl (subst (Left (a ∷ t)) z (d .left)) (d .value) (ap (λ k. wordOf (drop k (a ∷ t))) (sym z) ∙ d .says)
   where
     low-high : (49 ≤ a) × (a ≤ 57)
     low-high = is-within 49 57 a (d .first)
@@ -221,7 +234,13 @@ digits-are (a ∷ t) r word d = go t (digit (num t 0)) refl (d .left) (d .value)
         let second = value-is b p in
         let rest = left-told (a ∷ b ∷ t) 2 word left says in
         inr (record {
-          a = a; b = b; is = ap (λ l. a ∷ b ∷ l) rest; low = low; high = high; low′ = low′; high′ = high′;
+          a = a;
+          b = b;
+          is = ap (λ l. a ∷ b ∷ l) rest;
+          low = low;
+          high = high;
+          low′ = low′;
+          high′ = high′;
           value = rw (← first, ← second) value;
         })
 

@@ -13,7 +13,7 @@ use Rattle.program.specs.Program.{program}
 use Rattle.program.specs.declared.Draft.{Draft}
 use Rattle.program.specs.declared.Outcome.{Outcome}
 use Rattle.parse.specs.Answers.{withoutLemmas}
-use Rattle.parse.proofs.LabelLaws.{link-steady, link-word}
+use Rattle.parse.proofs.LabelLaws.{link-steady}
 use Rattle.form.specs.Lemmas.{filed}
 use Rattle.form.specs.Form.{kept, lemmasWord, lemmaText, lemmasOf, ended, form}
 use Rattle.form.specs.OneForm.{IsJob, jobOf, formOf, Agree, OneForm, EqualExactly}
@@ -40,11 +40,12 @@ line1-table : (text : List ℕ) (T : Told text) → (jobOf text .program .bound 
 unfolding withoutLemmas blank
 line1-table text T =
     let d = T .reads .start in
-    let kept-program = lines-keep (atStart d) (T .reads .rest) .0 in (
+    let kept-program = lines-keep (atStart d) (T .reads .rest) .0 in
+    let (bound, _, _, _, _, _, _, word) = link-steady d (d .program .steps) in (
       ap (λ (j : Job). j .program .bound) (table-is text T) ∙ ap (λ (P : Program). P .bound) kept-program
-          ∙ link-steady d (d .program .steps) .0 ∙ T .reads .line1 .0,
+          ∙ bound ∙ T .reads .line1 .0,
       ap (λ (j : Job). j .program .word) (table-is text T) ∙ ap (λ (P : Program). P .word) kept-program
-          ∙ link-word d (d .program .steps) ∙ T .reads .line1 .1,
+          ∙ word ∙ T .reads .line1 .1,
     )
 
 -- and its names are those of the draft at `lemmas`
