@@ -3,6 +3,7 @@ use mathlib.Core.List.{List}
 use Prim.Native.Nat.{ℕ}
 use Rattle.job.proofs.Accuracy.{accuracy}
 use Rattle.job.proofs.InRange.{in-range}
+use Rattle.job.proofs.Worded.{worded}
 use Rattle.parse.proofs.AcceptedFit.{accepted-fit}
 use Rattle.pieces.proofs.Joined.{all-clauses}
 use Rattle.reply.proofs.Accepted.{accepted-exactly}
@@ -13,6 +14,7 @@ use Rattle.claims.specs.Claims.{Claims}
 use Rattle.claims.proofs.Calls.{accurate-calls}
 use Rattle.claims.proofs.Replies.{accurate-replies}
 use Rattle.claims.proofs.Printed.{printed-whole}
+use Rattle.claims.proofs.Filed.{filed-whole}
 
 pub claims : (text : List ℕ) → IsJob text → Claims text
 claims text is =
@@ -29,4 +31,6 @@ claims text is =
       accurate-replies = accurate-replies J fits;
       one-form = one-form text is;
       equal-exactly = λ other also. equal-exactly text other is also;
+      filed-whole = filed-whole text is;
+      worded = worded J fits;
     }

@@ -3,4 +3,5 @@ pub mod RunBytes
 pub mod Calls
 pub mod Replies
 pub mod Printed
+pub mod Filed
 pub mod Claims

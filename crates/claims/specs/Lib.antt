@@ -2,4 +2,5 @@
 pub mod Calls
 pub mod Replies
 pub mod Printed
+pub mod Filed
 pub mod Claims

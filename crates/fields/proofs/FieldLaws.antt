@@ -5,15 +5,19 @@ use mathlib.Core.List.{List}
 use Prim.Native.Nat.{ℕ, _+_, _-_, _≤_, _<_}
 use native.Mathlib.Omega.{arith}
 use native.Mathlib.Numerals.{add-one}
+use native.Mathlib.Decide.{decLt}
 use borrow.Author.Tests.{lt-ltb, le-ltb, le-leb, lt-leb}
-use lib.ListN.{length, getD, drop, take, drop-of-length-le, length-take}
+use lib.Dec.{eqb, leb}
+use lib.ListN.{length, getD, drop, take, drop-of-length-le, length-take, length-drop}
 use lib.Seq.{slice, slice-cons}
 use Rattle.lists.specs.Rows.{num}
 use Rattle.lists.specs.Tests.{within}
-use Rattle.lists.specs.Pieces.{starts}
+use Rattle.lists.specs.Pieces.{starts, is}
+use Rattle.lists.proofs.Logic.{and-no}
+use Rattle.lists.proofs.PieceLaws.{starts-length, is-as-starts, is-other-length}
 use Rattle.scan.specs.Bytes.{wordAt, allOf, alnum, headed}
 use Rattle.scan.proofs.WordLaws.{word-part}
-use Rattle.fields.specs.Fields.{wordField, refuse, went, fixedField, endField, bitField, rangeField, digit}
+use Rattle.fields.specs.Fields.{wordField, refuse, went, fixedField, endField, isWord, boundEndField, bitField, rangeField, digit}
 use Rattle.fields.specs.declared.Cursor.{Cursor}
 use Rattle.fields.specs.declared.Field.the-variants.{Read}
 
@@ -79,6 +83,43 @@ module _ (s : List ℕ) (number : ℕ) (at : Cursor) where
   pub end-no : at .column < length s → refuse at number ≡ endField number s at
   unfolding endField
   end-no h = rw (lt-leb (length s) (at .column) h)
+
+-- ---- what is left of the line
+
+module _ (w s : List ℕ) (column : ℕ) where
+  pub rest-other : starts w (drop column s) ≡ false → false ≡ is w (drop column s)
+  unfolding is
+  rest-other h = rw h (sym (and-no (eqb (length (drop column s)) (length w))))
+
+  -- a line that goes on with the word is at its end behind it, or goes on
+  pub rest-end : starts w (drop column s) ≡ true → leb (length s) (column + length w) ≡ is w (drop column s)
+  rest-end h = go (decLt (column + length w) (length s))
+    where
+      go : Dec (column + length w < length s) → leb (length s) (column + length w) ≡ is w (drop column s)
+      go (yes k) =
+          let other : length (drop column s) ≡ length w → ⊥ = λ e. omega (arith, e, k, length-drop column s) in
+          lt-leb (length s) (column + length w) k ∙ sym (is-other-length w (drop column s) other)
+      go (no k) =
+          let same : length (drop column s) ≡ length w = omega (arith, starts-length w (drop column s) h, length-drop column s) in
+          le-leb (length s) (column + length w) (omega arith) ∙ sym (is-as-starts w (drop column s) same ∙ h)
+
+module _ (s : List ℕ) (at : Cursor) where
+  pub bound-end-none : length s ≤ at .column → record { field = Read; at = at } ≡ boundEndField s at
+  unfolding boundEndField
+  bound-end-none h =
+      let none : at .column + length (drop (at .column) s) ≡ at .column = omega (arith, length-drop (at .column) s) in
+      rw (le-leb (length s) (at .column) h, none)
+
+  pub bound-end-word : at .column < length s → isWord (drop (at .column) s) ≡ true
+      → record { field = Read; at = record { line = at .line; column = length s } } ≡ boundEndField s at
+  unfolding boundEndField
+  bound-end-word h k =
+      let all : at .column + length (drop (at .column) s) ≡ length s = omega (arith, length-drop (at .column) s) in
+      rw (lt-leb (length s) (at .column) h, k, all)
+
+  pub bound-end-no : at .column < length s → isWord (drop (at .column) s) ≡ false → refuse at 5 ≡ boundEndField s at
+  unfolding boundEndField
+  bound-end-no h k = rw (lt-leb (length s) (at .column) h, k)
 
 -- ---- numbers
 

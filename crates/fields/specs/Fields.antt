@@ -1,12 +1,12 @@
 -- The fields of a line (document 01, 'The job text'): each gives its answer and the cursor, moved on where the field is read.
 use Prim.Native.Nat.{ℕ, _+_}
-use mathlib.Core.Bool.{Bool, true, false, cond}
+use mathlib.Core.Bool.{Bool, true, false, cond, _||_}
 use mathlib.Core.List.{List, [], _∷_}
 use lib.Dec.{leb, ltb}
 use lib.ListN.{length, drop}
 use Rattle.lists.specs.Rows.{num}
 use Rattle.lists.specs.Tests.{within}
-use Rattle.lists.specs.Pieces.{starts}
+use Rattle.lists.specs.Pieces.{starts, is}
 use Rattle.scan.specs.Bytes.{wordAt, headed, plain}
 use Rattle.scan.specs.Lines.{Row}
 use Rattle.fields.specs.declared.Cursor.{Cursor}
@@ -106,8 +106,22 @@ endField number s at = pickField (leb (length s) (at .column)) (record { field =
 abbrev pub stepEndField : List ℕ → Cursor → Moved
 stepEndField = endField 14
 
-abbrev pub boundEndField : List ℕ → Cursor → Moved
-boundEndField = endField 5
+-- ---- the word of line 1 (document 02, S-2): 'Line 1 may end in ` start` or ` crash`'
+
+abbrev pub startWord : List ℕ
+startWord = 32 ∷ 115 ∷ 116 ∷ 97 ∷ 114 ∷ 116 ∷ []
+
+abbrev pub crashWord : List ℕ
+crashWord = 32 ∷ 99 ∷ 114 ∷ 97 ∷ 115 ∷ 104 ∷ []
+
+-- with its one space, and nothing behind it
+abbrev pub isWord : List ℕ → Bool
+isWord rest = is startWord rest || is crashWord rest
+
+-- behind R: the line's end, or the word; '5 for any other word'
+unfoldable pub boundEndField : List ℕ → Cursor → Moved
+boundEndField s at =
+    pickField (leb (length s) (at .column) || isWord (drop (at .column) s)) (went at (length (drop (at .column) s))) (refuse at 5)
 
 -- ---- the line as a whole
 

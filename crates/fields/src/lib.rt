@@ -1,12 +1,14 @@
 // The field readers, each lent the line and handed a cursor by value: `lent` has them lent the cursor.
 ghost use mathlib.Core.Path.{_≡_};
 ghost use Prim.Native.Nat.{_-_, _≤_};
-ghost use lib.ListN.{length};
+ghost use lib.ListN.{length, drop};
 ghost use lib.Seq.{slice};
+ghost use Rattle.lists.specs.Pieces.{is};
 ghost use Rattle.scan.specs.Bytes.{alnum as isAlnum, allOf, headed};
 ghost use Rattle.fields.specs.Fields.{numberOf, wordField, nameField, variableField, toField, otherField};
 ghost use Rattle.fields.specs.Fields.{fixedField, spaceField, equalsField, gotoField, elseField, boundField};
-ghost use Rattle.fields.specs.Fields.{digit as isDigit, bitField, rangeField, endField, stepEndField, boundEndField, wholeLine};
+ghost use Rattle.fields.specs.Fields.{digit as isDigit, bitField, rangeField, endField, stepEndField, wholeLine};
+ghost use Rattle.fields.specs.Fields.{isWord as wordOfLine1, boundEndField};
 ghost use Rattle.scan.specs.Lines.{row};
 
 // A place in a text: the line's number, and a column of the line.
@@ -335,10 +337,50 @@ pub fn step_end(s: &[u8], at: Cursor) -> Moved
     ended(s, at, Field::TEXT_AFTER)
 }
 
+// What is left of the line is this word.
+pub fn rest_is(s: &[u8], column: usize, w: &[u8]) -> bool
+    ensures { λ r. ⌜ r ≡ is (now (w .entry)) (drop column (now (s .entry))) ⌝ }
+{
+    if !scan::follows(s, column, w) {
+        return false;
+    }
+    s.len() <= column + w.len()
+}
+
+// What is left of line 1 is its word.
+fn is_word(s: &[u8], column: usize) -> bool
+    ensures { λ r. ⌜ r ≡ wordOfLine1 (drop column (now (s .entry))) ⌝ }
+{
+    if rest_is(s, column, b" start") {
+        return true;
+    }
+    rest_is(s, column, b" crash")
+}
+
+// Behind R: the line's end, or its word.
 pub fn bound_end(s: &[u8], at: Cursor) -> Moved
     ensures { λ r. ⌜ r ≡ boundEndField (now (s .entry)) at ⌝ }
 {
-    ended(s, at, Field::LINE_1)
+    let from = at.column;
+    if s.len() <= from {
+        return Moved {
+            field: Field::Read,
+            at,
+        };
+    }
+    if !is_word(s, from) {
+        return Moved {
+            field: Field::No(Field::LINE_1),
+            at,
+        };
+    }
+    Moved {
+        field: Field::Read,
+        at: Cursor {
+            line: at.line,
+            column: s.len(),
+        },
+    }
 }
 
 // 01's number of an answer, 0 where the field is read.

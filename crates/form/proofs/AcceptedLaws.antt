@@ -34,7 +34,7 @@ use Rattle.form.proofs.WrittenLaws.{long, lines-next}
 use Rattle.form.proofs.LemmaLineLaws.{AllSound, not-ok, then-ok, withLines, lines-are, lines-told}
 use Rattle.form.proofs.LineNumberLaws.{Passes, atStart, passes-told, passes-are}
 use Rattle.form.proofs.ProgramAgainLaws.{Ends, rowsLong, Reads, reads-told}
-use Rattle.form.proofs.BoundLaws.{line1}
+use Rattle.form.proofs.Line1Laws.{line1}
 
 -- ---- a text by its lines
 
@@ -47,9 +47,9 @@ lines-behind text at (l ∷ front) rest e =
     ap (λ k. lines (drop k text)) q ∙ lines-behind text (at + long (l .bytes)) front rest (lines-next text at l (front ++ rest) e)
 
 -- a text whose program comes to `lemmas`
-module _ (text : List ℕ) (l : Row) (front rest : List Row) (r k : ℕ) (d : Draft) (size : within 1 maxText (length text) ≡ true)
-    (split : lines text ≡ l ∷ (front ++ rest)) (w : wholeLine l ≡ Read) (b : firstLine (l .bytes) line1 ≡ Bound r)
-    (e : program (blank r) (long (l .bytes)) 1 (front ++ rest) ≡ reached k (long (l .bytes) + rowsLong front) d) where
+module _ (text : List ℕ) (l : Row) (front rest : List Row) (r word k : ℕ) (d : Draft) (size : within 1 maxText (length text) ≡ true)
+    (split : lines text ≡ l ∷ (front ++ rest)) (w : wholeLine l ≡ Read) (b : firstLine (l .bytes) line1 ≡ Bound r word)
+    (e : program (blank r word) (long (l .bytes)) 1 (front ++ rest) ≡ reached k (long (l .bytes) + rowsLong front) d) where
   program-is : programOf text ≡ reached k (long (l .bytes) + rowsLong front) d
   unfolding programOf fromLine1 whole opened
   program-is = rw size (ap fromLine1 split ∙ rw (w, b) e)
@@ -71,10 +71,11 @@ pub record Told (text : List ℕ) : Type 0 where
   pub lines-are : lines text ≡ first ∷ others
   pub whole-first : wholeLine first ≡ Read
   pub bound : ℕ
-  pub bound-is : firstLine (first .bytes) line1 ≡ Bound bound
+  pub word : ℕ
+  pub line1-is : firstLine (first .bytes) line1 ≡ Bound bound word
   pub size : length text ≤ maxText
   -- the program, and the lemma lines
-  pub reads : Reads (blank bound) 1 others
+  pub reads : Reads (blank bound word) 1 others
   pub passes : Passes (reads .start)
   pub few : length (reads .rest) ≤ maxLemmas
   pub sound : AllSound (atStart (reads .start)) (reads .rest)
@@ -93,13 +94,13 @@ ends-told text h = go (programOf text .end) (programOf text .draft) h
     go (Refused number place) d h = not-ok number place h
 
 module _ (text : List ℕ) (h : IsJob text) (l : Row) (ls : List Row) (split : lines text ≡ l ∷ ls) (size : within 1 maxText (length text) ≡ true)
-    (w : wholeLine l ≡ Read) (r : ℕ) (b : firstLine (l .bytes) line1 ≡ Bound r) (R : Reads (blank r) 1 ls) where
+    (w : wholeLine l ≡ Read) (r word : ℕ) (b : firstLine (l .bytes) line1 ≡ Bound r word) (R : Reads (blank r word) 1 ls) where
   told-by : Told text
   told-by =
       let s = atStart (R .start) in
       let is : reading text ≡ then (atLemmas (R .start) (R .line)) λ j. lemmaLines j (R .line) (R .rest) =
-      reading-is text l (R .front) (R .rest) r (R .line) (R .start) size (split ∙ ap (λ x. l ∷ x) (R .parts)) w b
-      (ap (program (blank r) (long (l .bytes)) 1) (sym (R .parts)) ∙ R .reads (long (l .bytes))) in
+      reading-is text l (R .front) (R .rest) r word (R .line) (R .start) size (split ∙ ap (λ x. l ∷ x) (R .parts)) w b
+      (ap (program (blank r word) (long (l .bytes)) 1) (sym (R .parts)) ∙ R .reads (long (l .bytes))) in
       let (a, next) = then-ok (atLemmas (R .start) (R .line)) _ (ap (λ (x : Reading). x .verdict) (sym is) ∙ h) in
       let passes = passes-told (R .start) (R .line) a in
       let from : reading text ≡ lemmaLines s (R .line) (R .rest) =
@@ -112,7 +113,8 @@ module _ (text : List ℕ) (h : IsJob text) (l : Row) (ls : List Row) (split : l
         lines-are = split;
         whole-first = w;
         bound = r;
-        bound-is = b;
+        word = word;
+        line1-is = b;
         size = is-within 1 maxText (length text) size .1;
         reads = R;
         passes = passes;
@@ -125,13 +127,17 @@ pub told : (text : List ℕ) → IsJob text → Told text
 unfolding programOf fromLine1 whole opened
 told text h = sized (within 1 maxText (length text)) refl (ends-told text h)
   where
+    -- what follows line 1
+    behind : Row → List Row → ℕ → ℕ → Outcome
+    behind l ls r word = program (blank r word) (long (l .bytes)) 1 ls
+
     begun : within 1 maxText (length text) ≡ true → (l : Row) (ls : List Row) → lines text ≡ l ∷ ls → wholeLine l ≡ Read
-        → (f : FirstLine) → firstLine (l .bytes) line1 ≡ f → Ends (opened f (λ r. program (blank r) (long (l .bytes)) 1 ls) .end) → Told text
-    begun z l ls e w (Bound r) b g = told-by text h l ls e z w r b (reads-told (blank r) (long (l .bytes)) 1 ls g)
+        → (f : FirstLine) → firstLine (l .bytes) line1 ≡ f → Ends (opened f (behind l ls) .end) → Told text
+    begun z l ls e w (Bound r word) b g = told-by text h l ls e z w r word b (reads-told (blank r word) (long (l .bytes)) 1 ls g)
     begun z l ls e w (WrongLine number) b g = absurd g
 
     line : within 1 maxText (length text) ≡ true → (l : Row) (ls : List Row) → lines text ≡ l ∷ ls
-        → (f : Field) → wholeLine l ≡ f → Ends (whole f (opened (firstLine (l .bytes) line1) λ r. program (blank r) (long (l .bytes)) 1 ls) .end) → Told text
+        → (f : Field) → wholeLine l ≡ f → Ends (whole f (opened (firstLine (l .bytes) line1) (behind l ls)) .end) → Told text
     line z l ls e Read w g = begun z l ls e w (firstLine (l .bytes) line1) refl g
     line z l ls e (No number) w g = absurd g
 

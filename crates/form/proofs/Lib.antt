@@ -8,7 +8,7 @@ pub mod LemmaLineLaws
 pub mod LineNumberLaws
 pub mod KeptLaws
 pub mod ProgramAgainLaws
-pub mod BoundLaws
+pub mod Line1Laws
 pub mod AcceptedLaws
 pub mod FiledLineLaws
 pub mod ReadAgainLaws

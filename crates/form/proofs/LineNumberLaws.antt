@@ -9,7 +9,8 @@ use lib.ListN.{length, drop}
 use Rattle.lists.specs.Rows.{num}
 use Rattle.lists.specs.Tests.{within}
 use Rattle.lists.specs.Pieces.{starts}
-use Rattle.job.specs.Fitness.{hasOther, firstOf, bothCritical}
+use Rattle.job.specs.Table.{firstOf}
+use Rattle.job.specs.Fitness.{hasOther, bothCritical}
 use Rattle.job.specs.declared.Job.{Job}
 use Rattle.job.specs.declared.Program.{Program}
 use Rattle.job.specs.declared.Refusal.{Refusal}

@@ -22,7 +22,7 @@ use Rattle.form.proofs.RunLaws.{runs-same}
 use Rattle.form.proofs.LemmaLineLaws.{lines-keep}
 use Rattle.form.proofs.LineNumberLaws.{relined, atStart}
 use Rattle.form.proofs.KeptLaws.{joined}
-use Rattle.form.proofs.BoundLaws.{line1, bound-same}
+use Rattle.form.proofs.Line1Laws.{line1, line1-same}
 use Rattle.form.proofs.AcceptedLaws.{Told, told}
 use Rattle.form.proofs.ReadAgainLaws.{Named, texts-same, table-is, kept-lines, form-shorter, form-accepted, form-kept, form-program, form-named, form-lemmas}
 
@@ -35,15 +35,18 @@ form-same a b J K k n f =
 
 -- ---- equal exactly
 
--- the table's bound is that of line 1
-bound-is : (text : List ℕ) (T : Told text) → jobOf text .program .bound ≡ T .bound
+-- the table's bound and word are those of line 1
+line1-table : (text : List ℕ) (T : Told text) → (jobOf text .program .bound ≡ T .bound) × (jobOf text .program .word ≡ T .word)
 unfolding withoutLemmas blank
-bound-is text T =
+line1-table text T =
     let d = T .reads .start in
-    ap (λ (j : Job). j .program .bound) (table-is text T)
-    ∙ ap (λ (P : Program). P .bound) (lines-keep (atStart d) (T .reads .rest) .0)
-    ∙ link-steady d (d .program .steps) .0
-    ∙ T .reads .bound
+    let kept-program = lines-keep (atStart d) (T .reads .rest) .0 in
+    let (bound, _, _, _, _, _, _, word) = link-steady d (d .program .steps) in (
+      ap (λ (j : Job). j .program .bound) (table-is text T) ∙ ap (λ (P : Program). P .bound) kept-program
+          ∙ bound ∙ T .reads .line1 .0,
+      ap (λ (j : Job). j .program .word) (table-is text T) ∙ ap (λ (P : Program). P .word) kept-program
+          ∙ word ∙ T .reads .line1 .1,
+    )
 
 -- and its names are those of the draft at `lemmas`
 names-are : (text : List ℕ) (T : Told text)
@@ -62,19 +65,22 @@ behind-1 : (text : List ℕ) (T : Told text) → kept (T .others) ≡ kept (drop
 behind-1 text T = ap (λ ls. kept (drop 1 ls)) (sym (T .lines-are))
 
 module _ (a b : List ℕ) (A : Told a) (B : Told b) where
-  -- texts of one bound and the same kept lines have the same names
-  drafts-same : A .bound ≡ B .bound → kept (A .others) ≡ kept (B .others)
+  -- texts of one bound and word and the same kept lines have the same names
+  drafts-same : A .bound ≡ B .bound → A .word ≡ B .word → kept (A .others) ≡ kept (B .others)
       → (ms : List ℕ) × (ns : List ℕ) × (relined (A .reads .start) ms ≡ relined (B .reads .start) ns)
-  drafts-same r k =
-      let (i, ms, p) = A .reads .again (blank (A .bound) .line) 0 1 [] in
-      let (j, ns, q) = B .reads .again (blank (B .bound) .line) 0 1 [] in
-      let same : program (blank (A .bound)) 0 1 (joined (kept (A .others)) []) ≡ program (blank (B .bound)) 0 1 (joined (kept (B .others)) []) =
-      ap (λ n. program (blank n) 0 1 (joined (kept (A .others)) [])) r ∙ ap (λ l. program (blank (B .bound)) 0 1 (joined l [])) k in
+  drafts-same r word k =
+      let (i, ms, p) = A .reads .again (blank (A .bound) (A .word) .line) 0 1 [] in
+      let (j, ns, q) = B .reads .again (blank (B .bound) (B .word) .line) 0 1 [] in
+      let same : read (A .bound) (A .word) (kept (A .others)) ≡ read (B .bound) (B .word) (kept (B .others)) =
+      ap (λ n. read n (A .word) (kept (A .others))) r ∙ ap (λ n. read (B .bound) n (kept (A .others))) word ∙ ap (read (B .bound) (B .word)) k in
       (ms, ns, ap (λ (o : Outcome). o .draft) (sym p ∙ same ∙ q))
+    where
+      read : ℕ → ℕ → List (List ℕ) → Outcome
+      read r word ls = program (blank r word) 0 1 (joined ls [])
 
-  named-same : A .bound ≡ B .bound → kept (A .others) ≡ kept (B .others) → Named (jobOf b) (jobOf a)
-  named-same r k =
-      let (ms, ns, d) = drafts-same r k in
+  named-same : A .bound ≡ B .bound → A .word ≡ B .word → kept (A .others) ≡ kept (B .others) → Named (jobOf b) (jobOf a)
+  named-same r word k =
+      let (ms, ns, d) = drafts-same r word k in
       let (s, l, n) = names-are a A in
       let (s′, l′, n′) = names-are b B in
       record {
@@ -85,13 +91,17 @@ module _ (a b : List ℕ) (A : Told a) (B : Told b) where
 
   agree-equal : Agree a b → formOf a ≡ formOf b
   agree-equal g =
-      let bound : A .bound ≡ B .bound = sym (bound-is a A) ∙ g .bound ∙ bound-is b B in
+      let (bound-a, word-a) = line1-table a A in
+      let (bound-b, word-b) = line1-table b B in
+      let bound : A .bound ≡ B .bound = sym bound-a ∙ g .bound ∙ bound-b in
+      let word : A .word ≡ B .word = sym word-a ∙ g .word ∙ word-b in
       let steps : kept (A .others) ≡ kept (B .others) = behind-1 a A ∙ g .steps ∙ sym (behind-1 b B) in
       let first : A .first .bytes ≡ B .first .bytes =
-      bound-same (A .first .bytes) (B .first .bytes) (B .bound) (A .bound-is ∙ ap Bound bound) (B .bound-is) in
+      line1-same (A .first .bytes) (B .first .bytes) (B .bound) (B .word)
+      (A .line1-is ∙ ap (λ n. Bound n (A .word)) bound ∙ ap (Bound (B .bound)) word) (B .line1-is) in
       let lines-same : kept (lines a) ≡ kept (lines b) =
       kept-lines a A ∙ ap (λ l. l ∷ kept (A .others)) first ∙ ap (λ ls. B .first .bytes ∷ ls) steps ∙ sym (kept-lines b B) in
-      form-same b a (jobOf b) (jobOf a) lines-same (named-same bound steps)
+      form-same b a (jobOf b) (jobOf a) lines-same (named-same bound word steps)
       (among-filed (lemmasOf (jobOf a)) (lemmasOf (jobOf b)) (g .lemmas) (g .lemmas-back))
 
   equal-agree : formOf a ≡ formOf b → Agree a b
@@ -100,12 +110,17 @@ module _ (a b : List ℕ) (A : Told a) (B : Told b) where
       sym (form-kept a A ∙ kept-lines a A) ∙ ap (λ x. kept (lines x)) e ∙ form-kept b B ∙ kept-lines b B in
       let first : A .first .bytes ≡ B .first .bytes = cc in
       let steps : kept (A .others) ≡ kept (B .others) = cc in
-      let bound-line : Bound (A .bound) ≡ Bound (B .bound) = sym (A .bound-is) ∙ ap (λ s. firstLine s line1) first ∙ B .bound-is in
+      let line1-said : Bound (A .bound) (A .word) ≡ Bound (B .bound) (B .word) =
+      sym (A .line1-is) ∙ ap (λ s. firstLine s line1) first ∙ B .line1-is in
       let bound : A .bound ≡ B .bound = cc in
+      let word : A .word ≡ B .word = cc in
+      let (bound-a, word-a) = line1-table a A in
+      let (bound-b, word-b) = line1-table b B in
       let lemmas : filed (lemmasOf (jobOf a)) ≡ filed (lemmasOf (jobOf b)) =
       sym (form-lemmas a A) ∙ ap (λ x. lemmasOf (jobOf x)) e ∙ form-lemmas b B in
       record {
-        bound = bound-is a A ∙ bound ∙ sym (bound-is b B);
+        bound = bound-a ∙ bound ∙ sym bound-b;
+        word = word-a ∙ word ∙ sym word-b;
         steps = sym (behind-1 a A) ∙ steps ∙ behind-1 b B;
         lemmas = filed-among (lemmasOf (jobOf a)) (lemmasOf (jobOf b)) lemmas;
         lemmas-back = filed-among (lemmasOf (jobOf b)) (lemmasOf (jobOf a)) (sym lemmas);

@@ -61,6 +61,10 @@ record Stepping (d : Draft) (l : Row) (n : ℕ) (p : Step) : Type 0 where
   room : leb maxSteps (d .program .steps) ≡ false
   says : stepOf d (l .bytes) n ≡ Line p
 
+-- bound and word are the same
+abbrev pub Line1 : Draft → Draft → Type 0
+Line1 d e = (d .program .bound ≡ e .program .bound) × (d .program .word ≡ e .program .word)
+
 module _ (d : Draft) (s : List ℕ) (p : Step) (n : ℕ) where
   abbrev variableOf : List ℕ
   variableOf = slice (p .variable) (p .equals) s
@@ -80,18 +84,18 @@ module _ (d : Draft) (s : List ℕ) (p : Step) (n : ℕ) where
       go true = mentioned (lookup (d .names) (d .program .variables) variableOf)
       go false = refl
 
-  -- and leaves the bound
-  added-bound : addStep d s p n .program .bound ≡ d .program .bound
+  -- and leaves what line 1 said
+  added-line1 : Line1 (addStep d s p n) d
   unfolding addStep enter mentionAt
-  added-bound = go (hasVariable (p .kind))
+  added-line1 = go (hasVariable (p .kind))
     where
-      mentioned : (f : Found) → mentionAt d variableOf f .program .bound ≡ d .program .bound
-      mentioned (At i) = refl
-      mentioned Nothing = refl
+      mentioned : (f : Found) → Line1 (mentionAt d variableOf f) d
+      mentioned (At i) = (refl, refl)
+      mentioned Nothing = (refl, refl)
 
-      go : (b : Bool) → cond b (mention d variableOf) d .program .bound ≡ d .program .bound
+      go : (b : Bool) → Line1 (cond b (mention d variableOf) d) d
       go true = mentioned (lookup (d .names) (d .program .variables) variableOf)
-      go false = refl
+      go false = (refl, refl)
 
 module _ (d : Draft) (at n : ℕ) (l : Row) (ls : List Row) (w : wholeLine l ≡ Read) where
   abbrev next : ℕ
@@ -166,7 +170,7 @@ pub record Reads (d : Draft) (n : ℕ) (ls : List Row) : Type 0 where
   -- the draft at `lemmas`
   pub start : Draft
   pub line : ℕ
-  pub bound : start .program .bound ≡ d .program .bound
+  pub line1 : Line1 start d
   pub reads : (at : ℕ) → program d at n ls ≡ reached line (at + rowsLong front) start
   pub shorter : weight long (kept ls) + long lemmasWord ≤ rowsLong front
   -- the kept lines lead to the same draft, under any line numbers and before any lemma lines
@@ -195,7 +199,7 @@ module _ (d : Draft) (n : ℕ) (l : Row) (ls : List Row) (w : wholeLine l ≡ Re
     wholes = either [] (λ k i. absurd i);
     start = d;
     line = n + 1;
-    bound = refl;
+    line1 = (refl, refl);
     reads = here;
     shorter = rw (kept-lemmas l ls a) (omega (arith, lemmas-length (l .bytes) a));
     again = λ ns at m tail. subst (λ ks. Leads (relined d ns) at m ks tail d) (sym (kept-lemmas l ls a)) (m + 1, ns, ended ns at m tail);
@@ -228,7 +232,7 @@ module _ (d : Draft) (n : ℕ) (l : Row) (ls : List Row) (w : wholeLine l ≡ Re
     wholes = either (r .front) (r .wholes);
     start = r .start;
     line = r .line;
-    bound = r .bound;
+    line1 = r .line1;
     reads = onward d r (λ at. program-comment d at n l ls w a b);
     shorter = rw (kept-comment l ls a b) (omega (arith, r .shorter));
     again = λ ns at m tail. subst (λ ks. Leads (relined d ns) at m ks tail (r .start)) (sym (kept-comment l ls a b)) (r .again ns at m tail);
@@ -243,7 +247,7 @@ module _ (d : Draft) (n : ℕ) (l : Row) (ls : List Row) (w : wholeLine l ≡ Re
     wholes = either (r .front) (r .wholes);
     start = r .start;
     line = r .line;
-    bound = r .bound ∙ added-bound d (l .bytes) p (n + 1);
+    line1 = let (b, k) = added-line1 d (l .bytes) p (n + 1) in (r .line1 .0 ∙ b, r .line1 .1 ∙ k);
     reads = onward added r (λ at. program-step d at n l ls w p s);
     shorter = rw (kept-line l ls (s .no-lemmas) (s .no-comment)) (omega (arith, r .shorter));
     again = λ ns at m tail.

@@ -38,7 +38,7 @@ use Rattle.form.proofs.LemmaLineLaws.{Sized, AllSound, literals, withLi
 use Rattle.form.proofs.LineNumberLaws.{relined, atStart, passes-are, passes-relined, start-relined}
 use Rattle.form.proofs.KeptLaws.{joined, kept-line, kept-again, kept-in}
 use Rattle.form.proofs.ProgramAgainLaws.{lemmas-whole, whole-ended, rowsLong, Leads}
-use Rattle.form.proofs.BoundLaws.{bound-kept}
+use Rattle.form.proofs.Line1Laws.{line1-kept}
 use Rattle.form.proofs.FiledLineLaws.{plain-bytes, no-lf, filedLines, filed-free, filed-sound, filed-read, filed-fewer, filed-shorter}
 use Rattle.form.proofs.AcceptedLaws.{reading-is, Told, no-lemmas}
 
@@ -118,7 +118,7 @@ module _ (text : List ℕ) (T : Told text) where
 
   pub kept-lines : kept (lines text) ≡ T .first .bytes ∷ behind
   kept-lines =
-      let (a, b) = bound-kept (T .first .bytes) (T .bound) (T .bound-is) in
+      let (a, b) = line1-kept (T .first .bytes) (T .bound) (T .word) (T .line1-is) in
       ap kept (T .lines-are) ∙ kept-line (T .first) (T .others) a b
 
   lemma-lines : map (lemmaText (jobOf text)) (filed (lemmasOf (jobOf text))) ≡ written
@@ -195,7 +195,7 @@ module _ (text : List ℕ) (T : Told text) where
   form-size : within 1 maxText (length (formOf text)) ≡ true
   form-size = within-is 1 maxText (length (formOf text)) (omega (arith, form-long)) (omega (arith, form-shorter, T .size))
 
-  form-reading : Leads (blank (T .bound)) (long (T .first .bytes)) 1 behind (asRows written) draft
+  form-reading : Leads (blank (T .bound) (T .word)) (long (T .first .bytes)) 1 behind (asRows written) draft
       → reading (formOf text) ≡ accept (withLines base (asRows written))
   unfolding by
   form-reading (k, ms, q) =
@@ -204,17 +204,17 @@ module _ (text : List ℕ) (T : Told text) where
       let parts : joined behind (asRows written) ≡ upTo ++ asRows written =
       sym (append-assoc (asRows behind) (row lemmasWord true ∷ []) (asRows written)) in
       let place : n + weight long behind + long lemmasWord ≡ n + rowsLong upTo = omega (arith, up-to-long) in
-      let goes : program (blank (T .bound)) n 1 (upTo ++ asRows written) ≡ reached k (n + rowsLong upTo) d =
-      ap (program (blank (T .bound)) n 1) (sym parts) ∙ q ∙ ap (λ p. reached k p d) place in
+      let goes : program (blank (T .bound) (T .word)) n 1 (upTo ++ asRows written) ≡ reached k (n + rowsLong upTo) d =
+      ap (program (blank (T .bound) (T .word)) n 1) (sym parts) ∙ q ∙ ap (λ p. reached k p d) place in
       let room : base .lemmas + length (asRows written) ≤ maxLemmas = omega (arith, no-lemmas draft, filed-fewer base rest (T .sound), T .few) in
-      reading-is (formOf text) (row (T .first .bytes) true) upTo (asRows written) (T .bound) k d form-size
-      (form-lines ∙ ap (λ x. row (T .first .bytes) true ∷ x) parts) (whole-ended (T .first) (T .whole-first)) (T .bound-is) goes
+      reading-is (formOf text) (row (T .first .bytes) true) upTo (asRows written) (T .bound) (T .word) k d form-size
+      (form-lines ∙ ap (λ x. row (T .first .bytes) true ∷ x) parts) (whole-ended (T .first) (T .whole-first)) (T .line1-is) goes
       ∙ ap (λ r. then r λ j. lemmaLines j k (asRows written)) (passes-are d k (passes-relined draft ms (T .passes)))
       ∙ ap (λ j. lemmaLines j k (asRows written)) (start-relined draft ms (T .passes))
       ∙ lines-are base k (asRows written) room (filed-sound base rest (T .sound))
 
   form-read : reading (formOf text) ≡ accept (withLines base (asRows written))
-  form-read = form-reading (T .reads .again (blank (T .bound) .line) (long (T .first .bytes)) 1 (asRows written))
+  form-read = form-reading (T .reads .again (blank (T .bound) (T .word) .line) (long (T .first .bytes)) 1 (asRows written))
 
   -- ---- what its table is
 
@@ -226,7 +226,7 @@ module _ (text : List ℕ) (T : Told text) where
 
   pub form-kept : kept (lines (formOf text)) ≡ kept (lines text)
   form-kept =
-      let (a, b) = bound-kept (T .first .bytes) (T .bound) (T .bound-is) in
+      let (a, b) = line1-kept (T .first .bytes) (T .bound) (T .word) (T .line1-is) in
       ap kept form-lines
       ∙ kept-line (row (T .first .bytes) true) (joined behind (asRows written)) a b
       ∙ ap (λ x. T .first .bytes ∷ x) (kept-again (T .others) (asRows written))

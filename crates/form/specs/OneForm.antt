@@ -27,9 +27,10 @@ formOf text = form text (jobOf text)
 abbrev pub Among : List Clause → List Clause → Type 0
 Among a b = (l : Clause) → In l a → (k : Clause) × In k b × Same l k
 
--- 'bound, step lines and the remaining lemmas, as sets of sets, agree'
+-- 'bound, step lines and the remaining lemmas, as sets of sets, agree'; and the word, which 'S-1's equality counts' (S-2)
 pub record Agree (a b : List ℕ) : Type 0 where
   pub bound : jobOf a .program .bound ≡ jobOf b .program .bound
+  pub word : jobOf a .program .word ≡ jobOf b .program .word
   pub steps : kept (drop 1 (lines a)) ≡ kept (drop 1 (lines b))
   pub lemmas : Among (remaining (lemmasOf (jobOf a))) (remaining (lemmasOf (jobOf b)))
   pub lemmas-back : Among (remaining (lemmasOf (jobOf b))) (remaining (lemmasOf (jobOf a)))

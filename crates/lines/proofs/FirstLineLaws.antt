@@ -7,14 +7,16 @@ use native.Mathlib.Omega.{arith}
 use Rattle.lists.specs.Rows.{num}
 use Rattle.lists.specs.Tests.{within}
 use Rattle.lists.proofs.TestLaws.{is-within}
-use Rattle.fields.specs.Fields.{numberOf, digit}
-use Rattle.lines.specs.FirstLine.{then, after, valueOf, numberAt}
+use Rattle.lists.specs.Pieces.{is}
+use Rattle.job.specs.Words.{noWord, start, crash}
+use Rattle.fields.specs.Fields.{numberOf, digit, startWord, crashWord}
+use Rattle.lines.specs.FirstLine.{then, after, valueOf, numberAt, wordOf}
 use Rattle.fields.specs.declared.Cursor.{Cursor}
 use Rattle.fields.specs.declared.Moved.{Moved}
 use Rattle.fields.specs.declared.Field.{Field}
 use Rattle.fields.specs.declared.Field.the-variants.{Read, No}
 use Rattle.lines.specs.declared.FirstLine.{FirstLine}
-use Rattle.lines.specs.declared.FirstLine.the-variants.{Refused}
+use Rattle.lines.specs.declared.FirstLine.the-variants.{Bound, Refused}
 
 pub after-no : (m m′ : Moved) (rest : Cursor → FirstLine) (n r : ℕ)
     → m ≡ m′ → m .field ≡ No n → r ≡ numberOf (m .field) → Refused r ≡ after m′ rest
@@ -27,6 +29,10 @@ after-no m m′ rest n r e f k =
 pub after-read : (m m′ : Moved) (rest : Cursor → FirstLine) → m ≡ m′ → m .field ≡ Read → rest (m .at) ≡ after m′ rest
 unfolding then
 after-read m m′ rest e f = ap (λ (g : Field). then g (m .at) rest) (sym f) ∙ ap (λ (w : Moved). after w rest) e
+
+-- R and the word, each as it is told
+pub bound-is : (r r′ word word′ : ℕ) → r ≡ r′ → word ≡ word′ → Bound r word ≡ Bound r′ word′
+bound-is r r′ word word′ e f = rw (e, f)
 
 pub value-most : (b : ℕ) → valueOf b ≤ 9
 unfolding valueOf
@@ -46,3 +52,17 @@ module _ (s : List ℕ) (column : ℕ) where
   pub number-one : (a b x : ℕ) → a ≡ num s column → b ≡ num s (column + 1) → digit b ≡ false → x ≡ valueOf a → x ≡ numberAt s column
   unfolding numberAt
   number-one a b x e f d p = rw (← e, ← f, d, p)
+
+-- the word, by what is left of the line
+module _ (rest : List ℕ) where
+  pub word-crash : is crashWord rest ≡ true → crash ≡ wordOf rest
+  unfolding wordOf
+  word-crash h = rw h
+
+  pub word-start : is crashWord rest ≡ false → is startWord rest ≡ true → start ≡ wordOf rest
+  unfolding wordOf
+  word-start h k = rw (h, k)
+
+  pub word-none : is crashWord rest ≡ false → is startWord rest ≡ false → noWord ≡ wordOf rest
+  unfolding wordOf
+  word-none h k = rw (h, k)

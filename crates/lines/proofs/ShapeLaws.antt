@@ -1,4 +1,4 @@
--- What line 1 and a step line say lies in range: R from 1 to 99, a kind from 1 to 4, a value where the kind has one.
+-- What line 1 and a step line say lies in range: R from 1 to 99, a word of 0 to 2, a kind from 1 to 4, a value where the kind has one.
 use mathlib.Core.Path.{_≡_, refl, ap, _∙_, subst}
 use mathlib.Core.Bool.{Bool, true, false, cond}
 use mathlib.Core.List.{List}
@@ -10,11 +10,12 @@ use Rattle.lists.specs.Rows.{num}
 use Rattle.lists.specs.Tests.{every, within}
 use Rattle.lists.proofs.TestLaws.{is-within, within-is}
 use Rattle.job.specs.Limits.{maxBound}
-use Rattle.lists.specs.Pieces.{starts}
+use Rattle.job.specs.Words.{noWord, start, crash}
+use Rattle.lists.specs.Pieces.{starts, is}
 use Rattle.scan.specs.declared.Found.{Found}
 use Rattle.scan.specs.declared.Found.the-variants.{At, Nothing}
-use Rattle.fields.specs.Fields.{pickField, went, refuse, digit, rangeField}
-use Rattle.lines.specs.FirstLine.{valueOf, numberAt, firstLine}
+use Rattle.fields.specs.Fields.{pickField, went, refuse, digit, rangeField, startWord, crashWord}
+use Rattle.lines.specs.FirstLine.{valueOf, numberAt, wordOf, firstLine}
 use Rattle.lines.specs.FirstLine.{then as thenFirst, after as afterFirst}
 use Rattle.lines.specs.StepLine.{then, after, pick, fresh, begun, bitOf, elseLine, endLine, gotoLine, testLine, kindLine, stepLine, on, maybeWord, criticalWord, ifWord}
 use Rattle.fields.specs.declared.Cursor.{Cursor}
@@ -33,7 +34,7 @@ use Rattle.lines.proofs.FirstLineLaws.{value-most}
 -- ---- line 1
 
 abbrev Ranged : FirstLine → Type 0
-Ranged (Bound r) = within 1 maxBound r ≡ true
+Ranged (Bound r word) = (within 1 maxBound r ≡ true) × (leb word crash ≡ true)
 Ranged (WrongLine n) = Unit {0}
 
 after-ranged : (m : Moved) (rest : Cursor → FirstLine) → (m .field ≡ Read → Ranged (rest (m .at))) → Ranged (afterFirst m rest)
@@ -72,11 +73,21 @@ number-ranged s column h = go (digit (num s (column + 1)))
         (omega (arith, value-least (num s column) h))
         (omega (arith, value-most (num s column)))
 
-pub bound-ranged : (s : List ℕ) (at : Cursor) (r : ℕ) → firstLine s at ≡ Bound r → within 1 maxBound r ≡ true
+word-ranged : (rest : List ℕ) → leb (wordOf rest) crash ≡ true
+unfolding wordOf
+word-ranged rest = go (is crashWord rest) (is startWord rest)
+  where
+    go : (a b : Bool) → leb (cond a crash (cond b start noWord)) crash ≡ true
+    go true b = refl
+    go false true = refl
+    go false false = refl
+
+pub bound-ranged : (s : List ℕ) (at : Cursor) (r word : ℕ) → firstLine s at ≡ Bound r word
+    → (within 1 maxBound r ≡ true) × (leb word crash ≡ true)
 unfolding firstLine
-bound-ranged s at r e =
+bound-ranged s at r word e =
     subst (λ (l : FirstLine). Ranged l) e
-    (after-ranged _ _ λ _. after-ranged _ _ λ h. after-ranged _ _ λ _. number-ranged s _ (range-first s _ h))
+    (after-ranged _ _ λ _. after-ranged _ _ λ h. after-ranged _ _ λ _. (number-ranged s _ (range-first s _ h), word-ranged _))
 
 -- ---- a step line
 

@@ -1,16 +1,17 @@
 // Line 1 and the step line (document 01, 'The job text'), read field by field from left to right.
 ghost use mathlib.Core.Path.{_≡_};
 ghost use Prim.Native.Nat.{_<_};
-ghost use lib.ListN.{length};
-ghost use Rattle.lines.specs.FirstLine.{valueOf, numberAt, firstLine};
+ghost use lib.ListN.{length, drop};
+ghost use Rattle.lines.specs.FirstLine.{valueOf, numberAt, wordOf, firstLine};
 ghost use Rattle.lines.specs.StepLine.{begun as begunStep, bitOf, elseLine, endLine, gotoLine, testLine, kindLine, stepLine};
 use fields::Cursor;
 use fields::Field;
+use job::Job;
 use scan::Found;
 
-// What line 1 says: R.
+// What line 1 says: R, and the word's code.
 pub enum FirstLine {
-    Bound(usize),
+    Bound(usize, u8),
     Refused(u8),
 }
 
@@ -54,7 +55,20 @@ fn number_at(s: &[u8], column: usize) -> usize
     }
 }
 
-// Line 1: `bound R`.
+// The word of line 1, where R ends at column.
+fn word_of(s: &[u8], column: usize) -> u8
+    ensures { λ r. ⌜ r ≡ wordOf (drop column (now (s .entry))) ⌝ }
+{
+    if fields::rest_is(s, column, b" crash") {
+        return Job::CRASH;
+    }
+    if fields::rest_is(s, column, b" start") {
+        return Job::START;
+    }
+    Job::NO_WORD
+}
+
+// Line 1: `bound R`, and perhaps a word.
 pub fn first_line(s: &[u8], at: Cursor) -> FirstLine
     ensures { λ r. ⌜ r ≡ firstLine (now (s .entry)) at ⌝ }
 {
@@ -69,12 +83,13 @@ pub fn first_line(s: &[u8], at: Cursor) -> FirstLine
     let Field::Read = g else {
         return FirstLine::Refused(fields::number(g));
     };
-    let o = lent::bound_end_at(s, n.at.line, n.at.column);
+    let b = n.at;
+    let o = lent::bound_end_at(s, b.line, b.column);
     let h = o.field;
     let Field::Read = h else {
         return FirstLine::Refused(fields::number(h));
     };
-    FirstLine::Bound(number_at(s, a.column))
+    FirstLine::Bound(number_at(s, a.column), word_of(s, b.column))
 }
 
 fn else_line(s: &[u8], at: Cursor, p: Step) -> StepLine

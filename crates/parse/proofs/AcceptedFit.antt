@@ -9,7 +9,8 @@ use lib.Dec.{eqb, leb, ltb}
 use lib.ListN.{drop, length}
 use Rattle.lists.proofs.TestLaws.{pass}
 use Rattle.job.specs.Limits.{maxLemmas, maxNames}
-use Rattle.job.specs.Fitness.{firstOf, bothCritical, programFits, fit}
+use Rattle.job.specs.Table.{firstOf}
+use Rattle.job.specs.Fitness.{bothCritical, programFits, fit}
 use Rattle.job.specs.declared.Job.{Job}
 use Rattle.job.specs.declared.Program.{Program}
 use Rattle.scan.specs.Lines.{Row, lines}

@@ -10,13 +10,15 @@ use lib.ListN.{take}
 use Rattle.lists.specs.Rows.{each}
 use Rattle.lists.specs.Tests.{every, all, within}
 use Rattle.lists.specs.Places.{passing, first}
-use Rattle.job.specs.Fitness.{firstOf, bothCritical}
-use Rattle.lists.specs.Pieces.{cut, upTo, starts}
+use Rattle.lists.specs.Pieces.{cut, upTo, starts, is}
+use Rattle.job.specs.Table.{firstOf}
+use Rattle.job.specs.Words.{noWord, start, crash}
+use Rattle.job.specs.Fitness.{bothCritical}
 use Rattle.scan.specs.Bytes.{allOf, alnum, headed}
 use Rattle.scan.specs.Lines.{rows, lines}
 use Rattle.scan.specs.Names.{entryIs, lookup}
-use Rattle.fields.specs.Fields.{wordField, fixedField, bitField, rangeField, endField, wholeLine}
-use Rattle.lines.specs.FirstLine.{firstLine, numberAt, valueOf}
+use Rattle.fields.specs.Fields.{wordField, fixedField, bitField, rangeField, endField, boundEndField, wholeLine}
+use Rattle.lines.specs.FirstLine.{firstLine, numberAt, valueOf, wordOf}
 use Rattle.lines.specs.FirstLine.{then as thenFirst}
 use Rattle.lines.specs.StepLine.{fresh, bitOf, elseLine, endLine, gotoLine, testLine, kindLine, stepLine}
 use Rattle.lines.specs.StepLine.{then as thenStep}
@@ -55,21 +57,46 @@ table : let j = reading (bytes oneBit) .job in
     × (take 3 (j .program .value) ≡ 1 ∷ 0 ∷ 0 ∷ [])
     × (take 9 (j .labels) ≡ 65 ∷ 48 ∷ 0 ∷ 0 ∷ 66 ∷ 48 ∷ 0 ∷ 0 ∷ 0 ∷ [])
     × (take 5 (j .names) ≡ 97 ∷ 0 ∷ 0 ∷ 0 ∷ 0 ∷ [])
-unfolding bytes verdict every all within each passing first firstOf bothCritical cut upTo allOf starts alnum headed rows lines entryIs lookup wordField fixedField
-    bitField rangeField endField wholeLine firstLine numberAt valueOf thenFirst fresh bitOf elseLine endLine gotoLine testLine kindLine stepLine thenStep
-    blank mentionAt processOf otherEnd enter addStep isLemmas isComment stepped programLine pickLined wholeProgramLine follow program opened fromLine1
-    programOf wholeLine1 withoutLemmas by targetOf aim enterTo enterOther on linkStep link started atLemmas filled words bare namedIn named lemma whole
-    lemmaLine lemmaLines fromLemmas reading
+unfolding bytes verdict every all within each passing first firstOf bothCritical cut upTo allOf starts is alnum headed rows lines
+    entryIs lookup wordField fixedField bitField rangeField endField boundEndField wholeLine firstLine numberAt valueOf wordOf thenFirst
+    fresh bitOf elseLine endLine gotoLine testLine kindLine stepLine thenStep blank mentionAt processOf otherEnd enter addStep isLemmas
+    isComment stepped programLine pickLined wholeProgramLine follow program opened fromLine1 programOf wholeLine1 withoutLemmas by
+    targetOf aim enterTo enterOther on linkStep link started atLemmas filled words bare namedIn named lemma whole lemmaLine lemmaLines
+    fromLemmas reading
 table = (refl, refl, refl, refl, refl, refl, refl, refl, refl, refl, refl)
 
 -- in a lemma `~` is negation
-items : take 4 (reading (bytes "bound 1\n~ one bit\nA0 a=1 goto A0\nB0 maybe goto B0\nlemmas\n~a  A0 B0\n") .job .items) ≡ negsuc 2 ∷ pos 1 ∷ pos 2 ∷ pos 0 ∷ []
-unfolding bytes verdict every all within each passing first firstOf bothCritical cut upTo allOf starts alnum headed rows lines entryIs lookup wordField fixedField
-    bitField rangeField endField wholeLine firstLine numberAt valueOf thenFirst fresh bitOf elseLine endLine gotoLine testLine kindLine stepLine thenStep
-    blank mentionAt processOf otherEnd enter addStep isLemmas isComment stepped programLine pickLined wholeProgramLine follow program opened fromLine1
-    programOf wholeLine1 withoutLemmas by targetOf aim enterTo enterOther on linkStep link started atLemmas filled words bare namedIn named lemma whole
-    lemmaLine lemmaLines fromLemmas reading
+items : take 4 (reading (bytes "bound 1\n~ one bit\nA0 a=1 goto A0\nB0 maybe goto B0\nlemmas\n~a  A0 B0\n") .job .items)
+    ≡ negsuc 2 ∷ pos 1 ∷ pos 2 ∷ pos 0 ∷ []
+unfolding bytes verdict every all within each passing first firstOf bothCritical cut upTo allOf starts is alnum headed rows lines
+    entryIs lookup wordField fixedField bitField rangeField endField boundEndField wholeLine firstLine numberAt valueOf wordOf thenFirst
+    fresh bitOf elseLine endLine gotoLine testLine kindLine stepLine thenStep blank mentionAt processOf otherEnd enter addStep isLemmas
+    isComment stepped programLine pickLined wholeProgramLine follow program opened fromLine1 programOf wholeLine1 withoutLemmas by
+    targetOf aim enterTo enterOther on linkStep link started atLemmas filled words bare namedIn named lemma whole lemmaLine lemmaLines
+    fromLemmas reading
 items = refl
+
+-- line 1 with each word, and without one where both first steps are critical (document 02, S-2)
+abbrev accepted : List (String × ℕ)
+accepted =
+    ("bound 3\nA0 maybe goto A0\nB0 maybe goto B0\nlemmas\n", noWord)
+    ∷ ("bound 3 start\nA0 maybe goto A0\nB0 maybe goto B0\nlemmas\n", start)
+    ∷ ("bound 3 crash\nA0 maybe goto A0\nB0 maybe goto B0\nlemmas\n", crash)
+    ∷ ("bound 3\nA0 critical goto A0\nB0 critical goto B0\nlemmas\n", noWord)
+    ∷ []
+
+-- the verdict, and the word in the table
+unfoldable wordRead : String → Verdict × ℕ
+wordRead text = (verdict text, reading (bytes text) .job .program .word)
+
+words-told : map (λ (c : String × ℕ). wordRead (c .0)) accepted ≡ map (λ (c : String × ℕ). (Accepted, c .1)) accepted
+unfolding bytes verdict wordRead every all within each passing first firstOf bothCritical cut upTo allOf starts is alnum headed rows
+    lines entryIs lookup wordField fixedField bitField rangeField endField boundEndField wholeLine firstLine numberAt valueOf wordOf
+    thenFirst fresh bitOf elseLine endLine gotoLine testLine kindLine stepLine thenStep blank mentionAt processOf otherEnd enter addStep
+    isLemmas isComment stepped programLine pickLined wholeProgramLine follow program opened fromLine1 programOf wholeLine1 withoutLemmas
+    by targetOf aim enterTo enterOther on linkStep link started atLemmas filled words bare namedIn named lemma whole lemmaLine
+    lemmaLines fromLemmas reading
+words-told = refl
 
 -- each text with its refusal
 abbrev refusals : List (String × Verdict)
@@ -106,16 +133,23 @@ refusals =
     ∷ ("bound 1\n~ one bit\nA0 a=1 goto A0\nB0 maybe goto B0\nlemmas\n~~a\n", refusal 43 6)
     ∷ ("bound 1\n~ one bit\nA0 a=1 goto A0\nB0 maybe goto B0\nlemmas\na b\n", refusal 43 6)
     ∷ ("bound 1\n~ one bit\nA0 a=1 goto A0\nB0 maybe goto B0\nlemmas\na a a a a a a a a a a a a a a a a a a a a a a a a a a a a a a a a a a a a a a a a a a a a a a a a a a a a a a a a a a a a a a a a\n", refusal 44 6)
-    ∷ ("bound 1\nA0 critical goto A0\nB0 critical goto B0\nlemmas\n", refusal 55 4)
+    ∷ ("bound 1 crash\nA0 critical goto A0\nB0 critical goto B0\nlemmas\n", refusal 55 4)
     ∷ ("bound 1\nA0 maybe goto A0\nlemmas\n", refusal 98 3)
     ∷ ("bound 1\nB0 maybe goto B0\nlemmas\n", refusal 99 3)
     ∷ ("bound 1\nlemmas\n", refusal 99 2)
+    ∷ ("bound 1 start\nA0 critical goto A0\nB0 critical goto B0\nlemmas\n", refusal 55 4)
+    ∷ ("bound 3 start \n", refusal 5 1)
+    ∷ ("bound 3  start\n", refusal 5 1)
+    ∷ ("bound 3 Start\n", refusal 5 1)
+    ∷ ("bound 3 start crash\n", refusal 5 1)
+    ∷ ("bound 3 \n", refusal 5 1)
     ∷ []
 
 as-told : map (λ (c : String × Verdict). verdict (c .0)) refusals ≡ map (λ (c : String × Verdict). c .1) refusals
-unfolding bytes verdict every all within each passing first firstOf bothCritical cut upTo allOf starts alnum headed rows lines entryIs lookup wordField fixedField
-    bitField rangeField endField wholeLine firstLine numberAt valueOf thenFirst fresh bitOf elseLine endLine gotoLine testLine kindLine stepLine thenStep
-    blank mentionAt processOf otherEnd enter addStep isLemmas isComment stepped programLine pickLined wholeProgramLine follow program opened fromLine1
-    programOf wholeLine1 withoutLemmas by targetOf aim enterTo enterOther on linkStep link started atLemmas filled words bare namedIn named lemma whole
-    lemmaLine lemmaLines fromLemmas reading
+unfolding bytes verdict every all within each passing first firstOf bothCritical cut upTo allOf starts is alnum headed rows lines
+    entryIs lookup wordField fixedField bitField rangeField endField boundEndField wholeLine firstLine numberAt valueOf wordOf thenFirst
+    fresh bitOf elseLine endLine gotoLine testLine kindLine stepLine thenStep blank mentionAt processOf otherEnd enter addStep isLemmas
+    isComment stepped programLine pickLined wholeProgramLine follow program opened fromLine1 programOf wholeLine1 withoutLemmas by
+    targetOf aim enterTo enterOther on linkStep link started atLemmas filled words bare namedIn named lemma whole lemmaLine lemmaLines
+    fromLemmas reading
 as-told = refl

@@ -7,10 +7,12 @@ use native.Mathlib.Omega.{arith}
 use native.Mathlib.Numerals.{add-one}
 use native.Mathlib.Decide.{ℕ-discrete}
 use borrow.Author.Tests.{lt-ltb, le-ltb}
-use lib.Dec.{eqb, ltb}
+use lib.Dec.{eqb, leb, ltb}
 use Rattle.lists.specs.Rows.{num}
 use Rattle.lists.specs.Places.{first}
-use Rattle.job.specs.Fitness.{hasOther, firstOf, bothCritical}
+use Rattle.job.specs.Table.{firstOf}
+use Rattle.job.specs.Words.{start}
+use Rattle.job.specs.Fitness.{hasOther, bothCritical}
 use Rattle.job.specs.declared.Job.{Job}
 use Rattle.job.specs.declared.Program.{Program}
 use Rattle.job.specs.declared.Refusal.{Refusal}
@@ -154,7 +156,8 @@ module _ (d : Draft) (n : ℕ) (l l′ : Linked) (e : l ≡ l′) where
 -- ---- 99, 98, and the rest
 
 module _ (d : Draft) (n a b : ℕ) (p : a ≡ first (d .program .steps) λ c. eqb (num (d .program .process) c) 1) (q : b ≡ first (d .program .steps) λ c. eqb (num (d .program .process) c) 2) where
-  pub critical-is : (eqb (num (d .program .kind) a) 2 && eqb (num (d .program .kind) b) 2) ≡ bothCritical (d .program)
+  pub critical-is : (leb start (d .program .word) && (eqb (num (d .program .kind) a) 2 && eqb (num (d .program .kind) b) 2))
+      ≡ bothCritical (d .program)
   unfolding bothCritical firstOf
   critical-is = rw (p, q)
 
@@ -176,7 +179,7 @@ at-99 d n a p h = rw (← p, le-ltb a (d .program .steps) h)
 abbrev pub Steady : Program → Program → Type 0
 Steady P Q =
     (Q .bound ≡ P .bound) × (Q .steps ≡ P .steps) × (Q .variables ≡ P .variables) × (Q .process ≡ P .process)
-    × (Q .kind ≡ P .kind) × (Q .variable ≡ P .variable) × (Q .value ≡ P .value)
+    × (Q .kind ≡ P .kind) × (Q .variable ≡ P .variable) × (Q .value ≡ P .value) × (Q .word ≡ P .word)
 
 module _ (P : Program) where
   steady-to : (Q : Program) (k place : ℕ) (t : Target) → Steady P Q → Steady P (enterTo Q k place t .program)
@@ -203,7 +206,7 @@ module _ (P : Program) where
 
 pub link-steady : (d : Draft) (k : ℕ) → Steady (d .program) (link d k .program)
 unfolding link linkStep
-link-steady d zero = (refl, refl, refl, refl, refl, refl, refl)
+link-steady d zero = (refl, refl, refl, refl, refl, refl, refl, refl)
 link-steady d (suc k) =
     steady-then (d .program) (link d k) _ (link-steady d k) λ Q h.
     steady-then (d .program) _ _ (steady-to (d .program) Q k _ _ h) λ R g.

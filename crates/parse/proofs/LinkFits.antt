@@ -12,7 +12,8 @@ use lib.Seq.{slice}
 use Rattle.lists.specs.Rows.{num}
 use Rattle.lists.proofs.TestLaws.{pass, within-is, all-of}
 use Rattle.job.specs.Limits.{maxSteps}
-use Rattle.job.specs.Fitness.{larger, hasOther, isStep, otherFits, variableFits, valueFits, usedStep, unusedStep, mentioned, stepFits, stepsFit, firstOf, bothStart, bothCritical, programFits}
+use Rattle.job.specs.Fitness.{larger, hasOther, isStep, otherFits, variableFits, valueFits, usedStep, unusedStep, mentioned, stepFits, stepsFit, bothStart, bothCritical, programFits}
+use Rattle.job.specs.Table.{firstOf}
 use Rattle.job.specs.declared.Program.{Program}
 use Rattle.program.specs.declared.Draft.{Draft}
 use Rattle.program.proofs.PutLaws.{Put, put-set}
@@ -149,6 +150,7 @@ module _ (d : Draft) (D : Drafted (d .program)) where
 abbrev relinked : Program → List ℕ → List ℕ → Program
 relinked P t o = record {
   bound = P .bound;
+  word = P .word;
   steps = P .steps;
   variables = P .variables;
   process = P .process;
@@ -160,7 +162,7 @@ relinked P t o = record {
 }
 
 pub steady-is : (P Q : Program) → Steady P Q → relinked P (Q .to) (Q .other) ≡ Q
-steady-is P Q s = rw (← (s .0), ← (s .1), ← (s .2), ← (s .3), ← (s .4), ← (s .5), ← (s .6))
+steady-is P Q s = rw (← (s .0), ← (s .1), ← (s .2), ← (s .3), ← (s .4), ← (s .5), ← (s .6), ← (s .7))
 
 -- past the last step nothing is mentioned
 mentioned-past : (P : Program) → Drafted P → (c : ℕ) → P .steps ≤ c → mentioned P c ≡ mentioned P (P .steps)
@@ -204,4 +206,4 @@ module _ (P : Program) (t o : List ℕ) (D : Drafted P) (L : Linking P (P .steps
   pub linked-fits : ltb (firstOf P 1) (P .steps) ≡ true → ltb (firstOf P 2) (P .steps) ≡ true → bothCritical P ≡ false → programFits R ≡ true
   unfolding programFits bothStart bothCritical firstOf
   linked-fits a b c =
-      pass _ (le-leb (P .steps) maxSteps (D .few), (D .bounded, (steps-fit, (pass _ (a, (b, tt)), (ap not c, tt)))))
+      pass _ (le-leb (P .steps) maxSteps (D .few), (D .bounded, (steps-fit, (pass _ (a, (b, tt)), (ap not c, (D .worded, tt))))))

@@ -4,6 +4,7 @@ use mathlib.Core.Bool.{Bool, true, false}
 use lib.IntN.{pos}
 use lib.ListN.{replicate}
 use Rattle.job.specs.Limits.{maxLemmas, maxNames}
+use Rattle.job.specs.Words.{noWord}
 use Rattle.job.specs.Answers.{Answer, gives, refuses}
 use Rattle.job.specs.declared.Job.{Job}
 use Rattle.job.specs.declared.Program.{Program}
@@ -31,7 +32,7 @@ withoutLemmas d P = record {
 
 -- the table of zeros
 abbrev pub zeros : Job
-zeros = withoutLemmas (blank 0) (blank 0 .program)
+zeros = withoutLemmas (blank 0 noWord) (blank 0 noWord .program)
 
 -- a refusal with its number and place
 abbrev pub refusal : ℕ → ℕ → Verdict

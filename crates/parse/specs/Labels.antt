@@ -6,7 +6,8 @@ use lib.Dec.{eqb, ltb}
 use lib.ListN.{set}
 use lib.Seq.{slice}
 use Rattle.lists.specs.Rows.{num}
-use Rattle.job.specs.Fitness.{hasOther, firstOf, bothCritical}
+use Rattle.job.specs.Table.{firstOf}
+use Rattle.job.specs.Fitness.{hasOther, bothCritical}
 use Rattle.job.specs.declared.Program.{Program}
 use Rattle.scan.specs.Names.{lookup}
 use Rattle.scan.specs.declared.Found.{Found}
@@ -49,6 +50,7 @@ linked verdict P = record { verdict = verdict; program = P }
 abbrev pub withTo : Program → ℕ → ℕ → Program
 withTo P k i = record {
   bound = P .bound;
+  word = P .word;
   steps = P .steps;
   variables = P .variables;
   process = P .process;
@@ -62,6 +64,7 @@ withTo P k i = record {
 abbrev pub withOther : Program → ℕ → ℕ → Program
 withOther P k i = record {
   bound = P .bound;
+  word = P .word;
   steps = P .steps;
   variables = P .variables;
   process = P .process;
@@ -105,7 +108,7 @@ link d (suc k) = thenLink (link d k) (linkStep d k)
 
 -- ---- all checks at line n, `lemmas`
 
--- 55 'both first steps critical'
+-- 55 'both first steps critical', 'only with a word' (document 02, S-2)
 unfoldable pub started : Draft → ℕ → Verdict → Program → Reading
 started d n Accepted P = pick (bothCritical (d .program)) (refuse 55 n) (accept (withoutLemmas d P))
 started d n (Refused r) P = deny (Refused r)

@@ -3,12 +3,13 @@ ghost use mathlib.Core.Path.{_≡_};
 ghost use Prim.Native.Nat.{_+_, _*_, _<_, _≤_};
 ghost use mathlib.Core.Bool.{cond, _&&_};
 ghost use mathlib.Core.List.{[]};
-ghost use lib.Dec.{eqb};
+ghost use lib.Dec.{eqb, leb};
 ghost use lib.ListN.{length, drop};
 ghost use lib.Seq.{slice};
 ghost use Rattle.lists.specs.Rows.{num};
 ghost use Rattle.lists.specs.Places.{first};
 ghost use Rattle.job.specs.Limits.{maxSteps, maxLemmas, maxNames, maxText};
+ghost use Rattle.job.specs.Words.{start as startWord};
 ghost use Rattle.scan.specs.Lines.{row, lines};
 ghost use Rattle.scan.specs.Names.{lookup};
 ghost use Rattle.parse.specs.Answers.{answerOf, refusal as refusalOf, deny, withoutLemmas};
@@ -93,7 +94,7 @@ fn without_lemmas(d: Draft, p: Program) -> Job
 fn denied(verdict: Verdict) -> Reading
     ensures { λ r. ⌜ r ≡ deny verdict ⌝ }
 {
-    let d = program::blank(0);
+    let d = program::blank(0, Job::NO_WORD);
     let job = without_lemmas(d, d.program);
     Reading { verdict, job }
 }
@@ -235,10 +236,14 @@ fn first_of(process: &[u8; Job::STEPS], m: usize, p: u8) -> usize
     m
 }
 
-fn both_critical(kind: &[u8; Job::STEPS], a: usize, b: usize) -> bool
+// Both first steps critical, which only a word forbids.
+fn both_critical(word: u8, kind: &[u8; Job::STEPS], a: usize, b: usize) -> bool
     requires { ⌜ (a < maxSteps) × (b < maxSteps) ⌝ }
-    ensures { λ r. ⌜ r ≡ (eqb (num (now (kind .entry)) a) 2 && eqb (num (now (kind .entry)) b) 2) ⌝ }
+    ensures { λ r. ⌜ r ≡ (leb startWord word && (eqb (num (now (kind .entry)) a) 2 && eqb (num (now (kind .entry)) b) 2)) ⌝ }
 {
+    if word < Job::START {
+        return false;
+    }
     if kind[a] == 2 { kind[b] == 2 } else { false }
 }
 
@@ -262,7 +267,7 @@ fn at_lemmas(d: Draft, n: usize) -> Reading
     let Verdict::Accepted = v else {
         return denied(v);
     };
-    if both_critical(&own.kind, a, b) {
+    if both_critical(own.word, &own.kind, a, b) {
         return refused(Reading::BOTH_CRITICAL, n);
     }
     let job = without_lemmas(d, l.program);

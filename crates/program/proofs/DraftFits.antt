@@ -1,4 +1,4 @@
--- A draft is fit as far as it goes: its steps in range, its variables as first mentioned, its unused places 0.
+-- A draft is fit as far as it goes: its word one of line 1, its steps in range, its variables as first mentioned, its unused places 0.
 use mathlib.Core.Path.{_≡_, refl, sym, ap, _∙_, subst}
 use mathlib.Core.Bool.{Bool, true, false, cond}
 use mathlib.Core.List.{List}
@@ -14,6 +14,7 @@ use Rattle.lists.specs.Rows.{num}
 use Rattle.lists.specs.Tests.{within}
 use Rattle.lists.proofs.TestLaws.{within-is}
 use Rattle.job.specs.Limits.{maxSteps, maxBound}
+use Rattle.job.specs.Words.{crash}
 use Rattle.job.specs.Fitness.{larger, hasVariable, mentioned}
 use Rattle.job.specs.declared.Program.{Program}
 use Rattle.scan.specs.Names.{lookup}
@@ -56,6 +57,7 @@ used-same a b c d e h = rw (a, b, c, d, e) h
 
 pub record Drafted (P : Program) : Type 0 where
   pub bounded : within 1 maxBound (P .bound) ≡ true
+  pub worded : leb (P .word) crash ≡ true
   pub few : P .steps ≤ maxSteps
   pub process-size : length (P .process) ≡ maxSteps
   pub kind-size : length (P .kind) ≡ maxSteps
@@ -73,10 +75,11 @@ unfolding mentioned
 mentioned-same P Q zero h = refl
 mentioned-same P Q (suc c) h = rw (mentioned-same P Q c (λ i l. h i (omega arith)), h c (omega arith))
 
-pub blank-drafted : (r : ℕ) → within 1 maxBound r ≡ true → Drafted (blank r .program)
+pub blank-drafted : (r word : ℕ) → within 1 maxBound r ≡ true → leb word crash ≡ true → Drafted (blank r word .program)
 unfolding blank mentioned
-blank-drafted r h = record {
+blank-drafted r word h k = record {
   bounded = h;
+  worded = k;
   few = omega arith;
   process-size = length-replicate {0} {A = ℕ} maxSteps 0;
   kind-size = length-replicate {0} {A = ℕ} maxSteps 0;
@@ -95,6 +98,7 @@ blank-drafted r h = record {
 -- Q is P with one step more, of process p, kind k, variable x and value v
 pub record More (P Q : Program) (p k x v : ℕ) : Type 0 where
   pub bound : Q .bound ≡ P .bound
+  pub word : Q .word ≡ P .word
   pub steps : Q .steps ≡ P .steps + 1
   pub variables : Q .variables ≡ larger (P .variables) x
   pub process : Put (P .process) (Q .process) (P .steps) p
@@ -133,6 +137,7 @@ module _ (P Q : Program) (p k x v : ℕ) (D : Drafted P) (M : More P Q p k x v) 
   pub more-drafted : Used p k x v (P .variables) → P .steps < maxSteps → Drafted Q
   more-drafted u l = record {
     bounded = ap (within 1 maxBound) (M .bound) ∙ D .bounded;
+    worded = ap (λ (word : ℕ). leb word crash) (M .word) ∙ D .worded;
     few = omega (arith, M .steps);
     process-size = M .process .0 ∙ D .process-size;
     kind-size = M .kind .0 ∙ D .kind-size;
@@ -182,6 +187,7 @@ module _ (d : Draft) (s : List ℕ) (p : Step) (n : ℕ) (D : Drafted (d .progra
       more-drafted P _ (processOf (num s 0)) (p .kind) (i + 1) (p .value) D
       (record {
         bound = refl;
+        word = refl;
         steps = refl;
         variables = larger-first (P .variables) (i + 1) (omega arith);
         process = put-set (P .process) k _ (omega (arith, D .process-size));
@@ -200,6 +206,7 @@ module _ (d : Draft) (s : List ℕ) (p : Step) (n : ℕ) (D : Drafted (d .progra
       more-drafted P _ (processOf (num s 0)) (p .kind) x (p .value) D
       (record {
         bound = refl;
+        word = refl;
         steps = refl;
         variables = larger-second (P .variables) x (omega arith);
         process = put-set (P .process) k _ (omega (arith, D .process-size));
@@ -220,6 +227,7 @@ module _ (d : Draft) (s : List ℕ) (p : Step) (n : ℕ) (D : Drafted (d .progra
       more-drafted P _ (processOf (num s 0)) (p .kind) 0 (p .value) D
       (record {
         bound = refl;
+        word = refl;
         steps = refl;
         variables = larger-first (P .variables) 0 (omega arith);
         process = put-set (P .process) k _ (omega (arith, D .process-size));
@@ -263,5 +271,5 @@ pub reached-drafted : (text : List ℕ) → Reached (λ d n at. Drafted (d .prog
 reached-drafted text =
     reached (λ d n at. Drafted (d .program))
     (λ d l at n h. line-drafted d l (n + 1) h)
-    (λ s r e n. blank-drafted r (bound-ranged s _ r e))
+    (λ s r word e n. let ranged = bound-ranged s _ r word e in blank-drafted r word (ranged .0) (ranged .1))
     text

@@ -18,9 +18,9 @@ use Rattle.program.specs.declared.Draft.{Draft}
 abbrev pub Within : Draft → Type 0
 Within d = (d .program .variables ≤ d .program .steps) × (d .program .steps ≤ maxSteps)
 
-pub blank-within : (r : ℕ) → Within (blank r)
+pub blank-within : (r word : ℕ) → Within (blank r word)
 unfolding blank
-blank-within r = (omega arith, omega arith)
+blank-within r word = (omega arith, omega arith)
 
 pub mention-steps : (d : Draft) (w : List ℕ) (f : Found) → mentionAt d w f .program .steps ≡ d .program .steps
 unfolding mentionAt

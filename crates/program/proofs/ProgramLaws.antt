@@ -81,10 +81,10 @@ module _ (f f′ : Field) (rest : Outcome) (e : f ≡ f′) where
   unfolding whole
   no-line k r g h = ap (λ (x : ℕ). refuse x 1) (h ∙ ap numberOf g) ∙ ap (λ (x : Field). whole x rest) (sym g ∙ e)
 
-module _ (l l′ : FirstLine) (rest : ℕ → Outcome) (e : l ≡ l′) where
-  pub is-bound : (r : ℕ) → l ≡ Bound r → rest r ≡ opened l′ rest
+module _ (l l′ : FirstLine) (rest : ℕ → ℕ → Outcome) (e : l ≡ l′) where
+  pub is-bound : (r word : ℕ) → l ≡ Bound r word → rest r word ≡ opened l′ rest
   unfolding opened
-  is-bound r h = ap (λ (x : FirstLine). opened x rest) (sym h ∙ e)
+  is-bound r word h = ap (λ (x : FirstLine). opened x rest) (sym h ∙ e)
 
   pub is-wrong : (k r : ℕ) → l ≡ WrongLine k → r ≡ wrongOf l → refuse r 1 ≡ opened l′ rest
   unfolding opened
@@ -109,14 +109,15 @@ module _ (text : List ℕ) where
 pub from-line-1 : (text : List ℕ) (e : ℕ) → 1 ≤ length text → length text ≤ maxText → e ≡ 0 + length (wordAt 10 text 0)
     → let s = take (e - 0) (drop 0 text) in
     whole (wholeLine (row s (ltb e (length text))))
-    (opened (firstLine s (record { line = 1; column = 0 })) λ r. program (blank r) (e + 1) 1 (lines (drop (e + 1) text)))
+    (opened (firstLine s (record { line = 1; column = 0 })) λ r word. program (blank r word) (e + 1) 1 (lines (drop (e + 1) text)))
     ≡ programOf text
 unfolding fromLine1
 from-line-1 text e h m k =
     let s : List ℕ = take (e - 0) (drop 0 text) in
     let one : length s + 1 ≡ e + 1 = omega (arith, line-ends text 0 e (omega arith) k) in
     ap
-    (λ (n : ℕ). whole (wholeLine (row s (ltb e (length text)))) (opened (firstLine s (record { line = 1; column = 0 })) λ r. program (blank r) n 1 (lines (drop (e + 1) text))))
+    (λ (n : ℕ). whole (wholeLine (row s (ltb e (length text)))) (opened (firstLine s (record { line = 1; column = 0 })) λ r word.
+    program (blank r word) n 1 (lines (drop (e + 1) text))))
     (sym one)
     ∙ ap fromLine1 (sym (lines-at text 0 e (omega arith) k))
     ∙ fits text h m

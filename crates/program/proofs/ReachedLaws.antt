@@ -52,19 +52,20 @@ module _ (I : Draft → ℕ → ℕ → Type 0)
       go AtLemmas e k f = k
       go (No number) e k f = tt
 
-  module _ (first : (s : List ℕ) (r : ℕ) → firstLine s (record { line = 1; column = 0 }) ≡ Bound r → (n : ℕ) → I (blank r) 1 (n + 1)) where
+  module _ (first : (s : List ℕ) (r word : ℕ) → firstLine s (record { line = 1; column = 0 }) ≡ Bound r word
+      → (n : ℕ) → I (blank r word) 1 (n + 1)) where
     line-1-reached : (ls : List Row) → Reached I (fromLine1 ls)
     unfolding fromLine1 opened whole
     line-1-reached [] = tt
     line-1-reached (l ∷ ls) = read (wholeLine l) (firstLine (l .bytes) (record { line = 1; column = 0 })) refl
       where
         begins : (f : FirstLine) → firstLine (l .bytes) (record { line = 1; column = 0 }) ≡ f
-            → Reached I (opened f λ r. program (blank r) (length (l .bytes) + 1) 1 ls)
-        begins (Bound r) e = program-reached (blank r) _ 1 ls (first (l .bytes) r e (length (l .bytes)))
+            → Reached I (opened f λ r word. program (blank r word) (length (l .bytes) + 1) 1 ls)
+        begins (Bound r word) e = program-reached (blank r word) _ 1 ls (first (l .bytes) r word e (length (l .bytes)))
         begins (WrongLine k) e = tt
 
         read : (g : Field) (f : FirstLine) → firstLine (l .bytes) (record { line = 1; column = 0 }) ≡ f
-            → Reached I (whole g (opened f λ r. program (blank r) (length (l .bytes) + 1) 1 ls))
+            → Reached I (whole g (opened f λ r word. program (blank r word) (length (l .bytes) + 1) 1 ls))
         read Read f e = begins f e
         read (NoField k) f e = tt
 
@@ -97,7 +98,7 @@ pub reached-within : (text : List ℕ) → Reached (λ d n at. Within d × (n �
 reached-within text =
     reached (λ d n at. Within d × (n ≤ at))
     (λ d l at n h. (line-kept d l (n + 1) (h .0), omega (arith, h .1)))
-    (λ s r e n. (blank-within r, omega arith))
+    (λ s r word e n. (blank-within r word, omega arith))
     text
 
 pub reached-at : (I : Draft → ℕ → ℕ → Type 0) (o : Outcome) (n at : ℕ) → Reached I o → o .end ≡ Lemmas n at → I (o .draft) n at

@@ -19,11 +19,12 @@ use Rattle.program.specs.declared.Draft.{Draft}
 abbrev pub put4 : List ℕ → ℕ → List ℕ → List ℕ
 put4 l k w = set (set (set (set l (k * 4) (num w 0)) (k * 4 + 1) (num w 1)) (k * 4 + 2) (num w 2)) (k * 4 + 3) (num w 3)
 
--- no step yet, with a bound
-unfoldable pub blank : ℕ → Draft
-blank r = record {
+-- no step yet, with what line 1 says: a bound and a word
+unfoldable pub blank : ℕ → ℕ → Draft
+blank r word = record {
   program = record {
     bound = r;
+    word = word;
     steps = 0;
     variables = 0;
     process = replicate maxSteps 0;
@@ -47,6 +48,7 @@ abbrev pub withVariable : Draft → List ℕ → ℕ → ℕ → Draft
 withVariable d names n x = record {
   program = record {
     bound = d .program .bound;
+    word = d .program .word;
     steps = d .program .steps;
     variables = n;
     process = d .program .process;
@@ -87,6 +89,7 @@ unfoldable pub enter : Draft → List ℕ → Step → ℕ → Draft
 enter d s p n = record {
   program = record {
     bound = d .program .bound;
+    word = d .program .word;
     steps = d .program .steps + 1;
     variables = d .program .variables;
     process = set (d .program .process) (d .program .steps) (processOf (num s 0));

@@ -5,6 +5,7 @@ use mathlib.Core.List.{List, [], _∷_}
 use lib.ListN.{length}
 use Rattle.lists.specs.Tests.{within}
 use Rattle.job.specs.Limits.{maxText}
+use Rattle.job.specs.Words.{noWord}
 use Rattle.scan.specs.Lines.{Row, lines}
 use Rattle.fields.specs.Fields.{wholeLine}
 use Rattle.lines.specs.FirstLine.{firstLine}
@@ -25,7 +26,7 @@ use Rattle.program.specs.declared.Outcome.{Outcome}
 
 -- a refusal with its number and place
 abbrev pub refuse : ℕ → ℕ → Outcome
-refuse number place = record { end = Refused number place; draft = blank 0 }
+refuse number place = record { end = Refused number place; draft = blank 0 noWord }
 
 -- line n is `lemmas`, and the text goes on at at
 abbrev pub reached : ℕ → ℕ → Draft → Outcome
@@ -52,26 +53,27 @@ program d at n (l ∷ ls) =
     let r = lineOf d l (n + 1) in
     follow (r .next) (r .draft) (n + 1) (at + length (l .bytes) + 1) λ e. program e (at + length (l .bytes) + 1) (n + 1) ls
 
--- line 1 says R, or is refused
-unfoldable pub opened : FirstLine → (ℕ → Outcome) → Outcome
-opened (Bound r) rest = rest r
+-- line 1 says R and its word, or is refused
+unfoldable pub opened : FirstLine → (ℕ → ℕ → Outcome) → Outcome
+opened (Bound r word) rest = rest r word
 opened (WrongLine number) rest = refuse number 1
 
 -- 01's number of line 1, 0 where it says R
 abbrev pub wrongOf : FirstLine → ℕ
-wrongOf (Bound r) = 0
+wrongOf (Bound r word) = 0
 wrongOf (WrongLine number) = number
 
 unfoldable pub whole : Field → Outcome → Outcome
 whole Read rest = rest
 whole (NoField number) rest = refuse number 1
 
--- 'Line 1 is `bound R`'; 2, 3, 4 come before 5
+-- 'Line 1 is `bound R`', 'may end in ` start` or ` crash`'; 2, 3, 4 come before 5
 unfoldable pub fromLine1 : List Row → Outcome
 fromLine1 [] = refuse 1 0
 fromLine1 (l ∷ ls) =
     whole (wholeLine l)
-    (opened (firstLine (l .bytes) (record { line = 1; column = 0 })) λ r. program (blank r) (length (l .bytes) + 1) 1 ls)
+    (opened (firstLine (l .bytes) (record { line = 1; column = 0 })) λ r word.
+    program (blank r word) (length (l .bytes) + 1) 1 ls)
 
 -- 1 'job empty or over 32,768 bytes' comes first
 unfoldable pub programOf : List ℕ → Outcome

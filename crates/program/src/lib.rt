@@ -60,12 +60,13 @@ pub struct Lined {
 }
 
 // The draft of no steps.
-pub fn blank(bound: usize) -> Draft
-    ensures { λ r. ⌜ r ≡ blankDraft bound ⌝ }
+pub fn blank(bound: usize, word: u8) -> Draft
+    ensures { λ r. ⌜ r ≡ blankDraft bound word ⌝ }
 {
     Draft {
         program: Program {
             bound,
+            word,
             steps: 0,
             variables: 0,
             process: [0; Job::STEPS],
@@ -237,7 +238,7 @@ fn line_of(d: Draft, s: &[u8], ended: bool, n: usize) -> Lined
 fn refused(number: u8, place: usize) -> Outcome
     ensures { λ r. ⌜ r ≡ refuse number place ⌝ }
 {
-    let draft = blank(0);
+    let draft = blank(0, Job::NO_WORD);
     Outcome {
         end: End::Refused(number, place),
         draft,
@@ -284,7 +285,7 @@ fn wrong(f: FirstLine) -> u8
     ensures { λ r. ⌜ r ≡ wrongOf f ⌝ }
 {
     match f {
-        FirstLine::Bound(_) => 0,
+        FirstLine::Bound(_, _) => 0,
         FirstLine::Refused(k) => k,
     }
 }
@@ -306,8 +307,8 @@ pub fn program(text: &[u8]) -> Outcome
         return refused(fields::number(f), 1);
     };
     let l = lines::first_line(s, Cursor { line: 1, column: 0 });
-    let FirstLine::Bound(r) = l else {
+    let FirstLine::Bound(r, word) = l else {
         return refused(wrong(l), 1);
     };
-    program_lines(text, e + 1, blank(r))
+    program_lines(text, e + 1, blank(r, word))
 }

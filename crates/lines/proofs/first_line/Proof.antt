@@ -1,9 +1,8 @@
 -- `first_line` reads the fields of line 1 from left to right: each that is refused ends it.
-use Rattle.lines.proofs.FirstLineLaws.{after-no, after-read}
+use Rattle.lines.proofs.FirstLineLaws.{after-no, after-read, bound-is}
 use Rattle.fields.proofs.CursorLaws.{range-in}
-use Rattle.lines.specs.declared.FirstLine.the-variants.{Bound}
 use Rattle.lines.specs.FirstLine.{firstLine}
-use mathlib.Core.Path.{_∙_, ap}
+use mathlib.Core.Path.{_∙_}
 use borrow.Author.Needs.{needs}
 use Rattle.lines.proofs.first_line.Statement.{statement}
 use Rattle.lines.proofs.first_line.Tie as tie
@@ -64,10 +63,10 @@ number-requires-3 c κs = search needs
 returns-3 : tie.Need-returns-3
 unfolding firstLine
 returns-3 c =
-    let bound-word-at′ = c .before .before .before .before .before .before .before .before .before .before .bound-word-at in
-    let enum-told′ = c .before .before .before .before .before .before .before .before .enum-told in
-    let range-at′ = c .before .before .before .before .before .before .range-at in
-    let enum-told3′ = c .before .before .before .before .enum-told3 in
+    let bound-word-at′ = c .before .before .before .before .before .before .before .before .before .before .before .bound-word-at in
+    let enum-told′ = c .before .before .before .before .before .before .before .before .before .enum-told in
+    let range-at′ = c .before .before .before .before .before .before .before .range-at in
+    let enum-told3′ = c .before .before .before .before .before .enum-told3 in
     let bound-end-at′ = c .before .before .before .bound-end-at in
     let enum-told6′ = c .before .enum-told6 in
     after-no (bound-end-at′ .result) _ _ (enum-told6′ .given .0 .0) _ (bound-end-at′ .ensures) (enum-told6′ .given .1) (c .number3 .ensures)
@@ -76,22 +75,26 @@ returns-3 c =
 
 number-at-requires : tie.Need-number-at-requires
 number-at-requires c κs =
-    let args′ = c .before .before .before .before .before .before .before .before .before .before .before .args in
-    let bound-word-at′ = c .before .before .before .before .before .before .before .before .before .bound-word-at in
-    let range-at′ = c .before .before .before .before .before .range-at in
-    let enum-told3′ = c .before .before .before .enum-told3 in
+    let args′ = c .before .before .before .before .before .before .before .before .before .before .before .before .args in
+    let bound-word-at′ = c .before .before .before .before .before .before .before .before .before .before .bound-word-at in
+    let range-at′ = c .before .before .before .before .before .before .range-at in
+    let enum-told3′ = c .before .before .before .before .enum-told3 in
     range-in (args′ .s .now) (bound-word-at′ .result .at) (range-at′ .result) (range-at′ .ensures) (enum-told3′ .given .1)
+
+word-of-requires : tie.Need-word-of-requires
+word-of-requires c κs = search needs
 
 returns-4 : tie.Need-returns-4
 unfolding firstLine
 returns-4 c =
-    let bound-word-at′ = c .before .before .before .before .before .before .before .before .before .before .bound-word-at in
-    let enum-told′ = c .before .before .before .before .before .before .before .before .enum-told in
-    let range-at′ = c .before .before .before .before .before .before .range-at in
-    let enum-told3′ = c .before .before .before .before .enum-told3 in
-    let bound-end-at′ = c .before .before .before .bound-end-at in
-    ap Bound (c .number-at .ensures)
-    ∙ after-read (bound-end-at′ .result) _ _ (bound-end-at′ .ensures) (c .before .enum-told5 .given .1)
+    let bound-word-at′ = c .before .before .before .before .before .before .before .before .before .before .before .before .bound-word-at in
+    let enum-told′ = c .before .before .before .before .before .before .before .before .before .before .enum-told in
+    let range-at′ = c .before .before .before .before .before .before .before .before .range-at in
+    let enum-told3′ = c .before .before .before .before .before .before .enum-told3 in
+    let bound-end-at′ = c .before .before .before .before .bound-end-at in
+    let enum-told5′ = c .before .before .enum-told5 in
+    bound-is _ _ _ _ (c .before .number-at .ensures) (c .word-of .ensures)
+    ∙ after-read (bound-end-at′ .result) _ _ (bound-end-at′ .ensures) (enum-told5′ .given .1)
     ∙ after-read (range-at′ .result) _ _ (range-at′ .ensures) (enum-told3′ .given .1)
     ∙ after-read (bound-word-at′ .result) _ _ (bound-word-at′ .ensures) (enum-told′ .given .1)
 
@@ -115,4 +118,5 @@ first-line-spec =
     number-requires-3
     returns-3
     number-at-requires
+    word-of-requires
     returns-4)

@@ -106,7 +106,7 @@ program-lines-requires c κs =
     let end-of′ = c .before .before .before .before .before .before .before .before .before .end-of in
     let l′ = c .before .before .l in
     let e = line-within (args′ .text .now) 0 (end-of′ .result) (omega arith) (end-of′ .ensures) in
-    let b = blank-within (l′ .given .0 .0) in
+    let b = blank-within (l′ .given .0 .0) (l′ .given .0 .1 .0) in
     (omega arith, omega arith, omega arith, rw (c .blank .ensures) (b .0), rw (c .blank .ensures) (b .1))
 
 returns-5 : tie.Need-returns-5
@@ -123,7 +123,7 @@ returns-5 c =
     let e = end-of′ .result in
     c .program-lines .ensures
     ∙ ap (λ (d : Draft). programFrom d (e + 1) 1 (lines (drop (e + 1) text))) (c .before .blank .ensures)
-    ∙ is-bound (first-line′ .result) _ _ (first-line′ .ensures) (l′ .given .0 .0) (l′ .given .1)
+    ∙ is-bound (first-line′ .result) _ _ (first-line′ .ensures) (l′ .given .0 .0) (l′ .given .0 .1 .0) (l′ .given .1)
     ∙ is-whole (line′ .result) _ _ (line′ .ensures) (enum-told′ .given .1)
     ∙ from-line-1 text e (omega (arith, if1′ .left)) (if2′ .left) (end-of′ .ensures)
 
