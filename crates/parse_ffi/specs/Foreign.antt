@@ -12,6 +12,7 @@ flat accepted number place j = record {
   number = number;
   place = place;
   bound = j .program .bound;
+  word = j .program .word;
   steps = j .program .steps;
   variables = j .program .variables;
   process = j .program .process;

@@ -104,10 +104,8 @@ program-lines-requires : tie.Need-program-lines-requires
 program-lines-requires c κs =
     let args′ = c .before .before .before .before .before .before .before .before .before .before .before .before .before .args in
     let end-of′ = c .before .before .before .before .before .before .before .before .before .end-of in
-    let l′ = c .before .before .l in
     let e = line-within (args′ .text .now) 0 (end-of′ .result) (omega arith) (end-of′ .ensures) in
-    let b = blank-within (l′ .given .0 .0) (l′ .given .0 .1 .0) in
-    (omega arith, omega arith, omega arith, rw (c .blank .ensures) (b .0), rw (c .blank .ensures) (b .1))
+    (omega arith, omega arith, omega arith, rw (c .blank .ensures) (blank-within _ _ .0), rw (c .blank .ensures) (blank-within _ _ .1))
 
 returns-5 : tie.Need-returns-5
 returns-5 c =
