@@ -1,7 +1,7 @@
 // 45: whether a table is that of a job (document 01, 'Calls and buffers', Reading).
 mod range; // range.rt: the tests that steps and lemmas share
 mod steps; // steps.rt: the steps, one by one, and the variables they mention
-mod starts; // starts.rt: 98, 99 and 55
+mod starts; // starts.rt: a process's first step; 98, 99 and 55
 mod lemmas; // lemmas.rt: the lemmas, place by place
 
 ghost use mathlib.Core.Path.{_≡_};
@@ -10,6 +10,7 @@ use job::Job;
 use job::Program;
 use lemmas::lemmas_fit;
 use range::in_range;
+pub use starts::first_of;
 use starts::starts_fit;
 use steps::steps_fit;
 
@@ -20,7 +21,7 @@ fn program_fits(p: Program) -> bool
     if Job::STEPS < p.steps {
         return false;
     }
-    in_range(1, Job::BOUND, p.bound) & (steps_fit(p) & (starts_fit(p) & (p.word <= 2)))
+    in_range(1, Job::BOUND, p.bound) & (steps_fit(p) & (starts_fit(p) & (p.word <= Job::CRASH)))
 }
 
 // The program is tested first: then the number of items is small.

@@ -2,18 +2,28 @@
 ghost use mathlib.Core.Path.{_≡_};
 ghost use mathlib.Core.Bool.{_&&_, not};
 ghost use Prim.Native.Nat.{_≤_};
+ghost use Rattle.lists.specs.Rows.{num};
 ghost use Rattle.job.specs.Limits.{maxSteps};
-ghost use Rattle.job.specs.Fitness.{firstOf, bothStart, bothCritical};
+ghost use Rattle.job.specs.Table.{firstOf};
+ghost use Rattle.job.specs.Fitness.{bothStart, bothCritical};
+use job::Job;
 use job::Program;
 
-fn first_of(p: Program, process: u8) -> usize
-    requires { ⌜ p .steps ≤ maxSteps ⌝ }
+// Byte i, 0 past the end.
+fn byte_at(bs: &[u8], i: usize) -> u8
+    ensures { λ r. ⌜ r ≡ num (now (bs .entry)) i ⌝ }
+{
+    if i < bs.len() { bs[i] } else { 0 }
+}
+
+// The first step of a process, by its code, or the number of steps.
+pub fn first_of(p: Program, process: u8) -> usize
     ensures { λ r. ⌜ r ≡ firstOf p process ⌝ }
 {
     let m = p.steps;
     let mut c: usize = 0;
     while c < m {
-        if p.process[c] == process {
+        if byte_at(&p.process, c) == process {
             return c;
         }
         c += 1;
@@ -33,5 +43,5 @@ pub(crate) fn starts_fit(p: Program) -> bool
     if p.steps <= b {
         return false;
     }
-    !((1 <= p.word) & ((p.kind[a] == 2) & (p.kind[b] == 2)))
+    !((Job::START <= p.word) & ((p.kind[a] == 2) & (p.kind[b] == 2)))
 }

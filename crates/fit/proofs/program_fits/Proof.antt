@@ -22,8 +22,10 @@ starts-fit-requires c κs = search needs
 
 returns-2 : tie.Need-returns-2
 unfolding programFits every
-returns-2 c = let few = le-leb _ _ (c .before .before .before .before .if1 .left) in
-    rw (few, c .before .before .before .in-range .ensures, c .before .before .steps-fit .ensures, c .before .starts-fit .ensures, and-assoc)
+returns-2 c =
+    let few = le-leb _ _ (c .before .before .before .before .if1 .left) in
+    let bounded = c .before .before .before .in-range .ensures in
+    rw (few, bounded, c .before .before .steps-fit .ensures, c .before .starts-fit .ensures, and-assoc)
 
 pub program-fits-spec : {M : Type 1} → statement M
 program-fits-spec =

@@ -1,5 +1,5 @@
 -- `fit::starts::first_of` has found none below `c`; so the one that it stops at is the first.
-use mathlib.Core.Path.{_≡_, sym, subst}
+use mathlib.Core.Path.{_≡_, sym, subst, _∙_}
 use Prim.Native.Nat.{ℕ, _≤_, _-_}
 use native.Mathlib.Omega.{arith}
 use borrow.Author.Tests.{eq-eqb, ne-eqb}
@@ -8,7 +8,7 @@ use lib.Dec.{eqb}
 use Rattle.lists.specs.Rows.{num}
 use Rattle.lists.specs.Places.{first}
 use Rattle.lists.proofs.PlaceLaws.{first-zero, first-none, first-found}
-use Rattle.job.specs.Fitness.{firstOf}
+use Rattle.job.specs.Table.{firstOf}
 use Rattle.fit.proofs.starts.first_of.Statement.{statement}
 use Rattle.fit.proofs.starts.first_of.Tie as tie
 
@@ -21,12 +21,14 @@ abbrev μ-loop : tie.MeasureT-loop
 loop-holds : tie.Need-loop-holds Inv-loop μ-loop
 loop-holds c = (search needs, search needs, first-zero _)
 
-element-copy-out-if1 : tie.Need-element-copy-out-if1 Inv-loop μ-loop
-element-copy-out-if1 c = search needs
+byte-at-requires : tie.Need-byte-at-requires Inv-loop μ-loop
+byte-at-requires c κs = search needs
 
 returns : tie.Need-returns Inv-loop μ-loop
 unfolding firstOf
-returns c = let l = c .before .before .before .loop in sym (first-found _ (l .c) _ (l .inv .2) (eq-eqb _ _ (c .if1 .taken)) (omega arith))
+returns c =
+    let l = c .before .before .before .before .before .before .loop in
+    sym (first-found _ (l .c) _ (l .inv .2) (eq-eqb _ _ (sym (c .before .byte-at .ensures) ∙ c .if1 .taken)) (omega arith))
 
 add-c : tie.Need-add-c Inv-loop μ-loop
 add-c c = search needs
@@ -35,11 +37,14 @@ loop-less : tie.Need-loop-less Inv-loop μ-loop
 loop-less c = search needs
 
 loop-again : tie.Need-loop-again Inv-loop μ-loop
-loop-again c = let l = c .before .before .before .loop in (search needs, search needs, first-none _ (l .c) (l .inv .2) (ne-eqb _ _ (c .if1 .left)))
+loop-again c =
+    let l = c .before .before .before .before .before .before .loop in
+    (search needs, search needs, first-none _ (l .c) (l .inv .2) (ne-eqb _ _ λ e. c .if1 .left (c .before .byte-at .ensures ∙ e)))
 
 returns-2 : tie.Need-returns-2 Inv-loop μ-loop
 unfolding firstOf
-returns-2 c = let a = c .before .before .args in
+returns-2 c =
+    let a = c .before .before .args in
     let l = c .before .loop in
     let e : l .c ≡ a .t1 .steps = omega arith in
     sym (subst (λ (k : ℕ). first k (λ i. eqb (num (a .t1 .process) i) (a .process)) ≡ k) e (l .inv .2))
@@ -51,7 +56,7 @@ first-of-spec =
     Inv-loop
     μ-loop
     loop-holds
-    element-copy-out-if1
+    byte-at-requires
     returns
     add-c
     loop-less

@@ -30,8 +30,11 @@ element-copy-out-result-2 c = search needs
 
 returns-3 : tie.Need-returns-3
 unfolding bothStart bothCritical every
-returns-3 c = let d = c .before .before .before .before in
-    rw (← d .before .first-of .ensures, ← d .first-of2 .ensures, lt-ltb _ _ (c .before .before .before .if1 .left), lt-ltb _ _ (c .before .before .if2 .left))
+returns-3 c =
+    let d = c .before .before .before .before in
+    let a = lt-ltb _ _ (c .before .before .before .if1 .left) in
+    let b = lt-ltb _ _ (c .before .before .if2 .left) in
+    rw (← d .before .first-of .ensures, ← d .first-of2 .ensures, a, b)
 
 pub starts-fit-spec : {M : Type 1} → statement M
 starts-fit-spec =
