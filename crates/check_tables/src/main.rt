@@ -39,6 +39,11 @@ fn show(name: &[u8], j: Job) -> bool {
     }
 }
 
+// The table of four steps with a word behind its bound.
+fn worded(word: u8) -> Job {
+    changed(four_steps(), Place::Word, 0, word)
+}
+
 // The table of four steps with one place changed.
 fn fault(name: &[u8], place: Place, c: usize, x: u8) -> bool {
     show(name, changed(four_steps(), place, c, x))
@@ -63,7 +68,10 @@ fn steps() -> bool {
         && fault(b"process 3", Place::Process, 0, 3)
         && fault(b"kind 0", Place::Kind, 2, 0)
         && fault(b"kind 5", Place::Kind, 2, 5)
-        && fault(b"both first steps critical", Place::Kind, 2, 2)
+        && show(
+            b"both first steps critical",
+            changed(worded(Job::START), Place::Kind, 2, 2),
+        )
         && fault(b"L 0", Place::To, 0, 0)
         && fault(b"L past the steps", Place::To, 0, 5)
         && fault(b"L of the other process", Place::To, 0, 3)
@@ -99,6 +107,14 @@ fn lemmas() -> bool {
         && fault(b"negated item past the items", Place::Negated, 0, 7)
 }
 
+// 55 is asked of a table with a word alone; the third word is none.
+fn words() -> bool {
+    show(b"four steps from the start", worded(Job::START))
+        && show(b"four steps to a crash", worded(Job::CRASH))
+        && fault(b"both critical, no word", Place::Kind, 2, 2)
+        && show(b"a third word", worded(3))
+}
+
 fn main() {
     let _ = show(b"a job in full", one_bit(0))
         && show(b"with lemma ~a", one_bit(1))
@@ -109,5 +125,6 @@ fn main() {
         && sizes()
         && steps()
         && unused()
-        && lemmas();
+        && lemmas()
+        && words();
 }

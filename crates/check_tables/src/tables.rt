@@ -50,7 +50,7 @@ fn job(
 pub(crate) fn one_bit(lemmas: u8) -> Job {
     let program = Program {
         bound: 1,
-        word: 0,
+        word: Job::NO_WORD,
         steps: 2,
         variables: 1,
         process: row(1, 2, 0, 0),
@@ -71,7 +71,7 @@ pub(crate) fn one_bit(lemmas: u8) -> Job {
 pub(crate) fn four_steps() -> Job {
     let program = Program {
         bound: 1,
-        word: 0,
+        word: Job::NO_WORD,
         steps: 4,
         variables: 2,
         process: row(1, 1, 2, 2),
@@ -103,7 +103,7 @@ pub(crate) fn largest() -> Job {
     to[Job::STEPS - 1] = Job::STEPS as u16;
     let program = Program {
         bound: Job::BOUND,
-        word: 0,
+        word: Job::NO_WORD,
         steps: Job::STEPS,
         variables: Job::STEPS,
         process,
