@@ -14,6 +14,7 @@ use Rattle.foreign.specs.declared.Answer.{Answer as AnswerInC}
 abbrev pub programOf : Table → Program
 programOf t = record {
   bound = t .bound;
+  word = t .word;
   steps = t .steps;
   variables = t .variables;
   process = t .process;

@@ -14,6 +14,7 @@ use reply::Checked;
 #[repr(C)]
 pub struct Table {
     pub bound: usize,
+    pub word: u8,
     pub steps: usize,
     pub variables: usize,
     pub process: [u8; Job::STEPS],
@@ -46,6 +47,7 @@ fn program_of(t: Table) -> Program
     let value = t.value;
     Program {
         bound: t.bound,
+        word: t.word,
         steps: t.steps,
         variables: t.variables,
         process,

@@ -1,3 +1,4 @@
 -- The laws of states in groups.
 pub mod GroupLaws
 pub mod TurnLaws
+pub mod WordLaws
