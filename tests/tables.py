@@ -1,6 +1,7 @@
 """Accepted job texts as tables (document 01, 'Calls and buffers', Reading; the word of 02's S-2), and their clauses from the separate
 generator."""
 import ctypes
+import functools
 import os
 import subprocess
 import tempfile
@@ -93,11 +94,16 @@ def changed(t, name, place, value):
     return t
 
 
+@functools.cache
+def built():
+    """The folder in which the separate generator was built; it goes away with the test."""
+    folder = tempfile.TemporaryDirectory()
+    subprocess.run(["cc", "-O2", "-std=c11", os.path.join(TESTS, "generator/generator.c"), "-o", folder.name + "/generator"], check=True)
+    return folder
+
+
 def clauses(text):
     """The number of variables and the clauses, as the separate generator prints them."""
-    with tempfile.TemporaryDirectory() as folder:
-        program = os.path.join(folder, "generator")
-        subprocess.run(["cc", "-O2", "-std=c11", os.path.join(TESTS, "generator/generator.c"), "-o", program], check=True)
-        printed = subprocess.run([program], input=text, capture_output=True, text=True, check=True).stdout
+    printed = subprocess.run([built().name + "/generator"], input=text, capture_output=True, text=True, check=True).stdout
     rows = [line.split() for line in printed.split("\n") if line and not line.startswith("c")]
     return int(rows[0][2]), [[int(n) for n in row[:-1]] for row in rows[1:]]
