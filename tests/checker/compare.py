@@ -124,7 +124,7 @@ def job_texts():
     plain = [stored("one_bit"), stored("larger"), "bound 2\nA0 maybe goto A0\nB0 maybe goto B0\nlemmas\n"]
     plain += [plain[0] + "~a\n", plain[0] + "a A0\n B0  ~a\n"]
     yield from plain
-    yield from map(stored, ("empty_clause", "from_start", "crash"))
+    yield from (stored("empty_clause"), stored("from_start"), stored("from_start").replace("start", "crash"))
     yield from (CRASHES, CRASHES.replace("crash", "start"), NO_STEP_OF_A, NO_STEP_OF_A.replace(" crash", ""))
     yield from (text.replace("\n", f" {word}\n", 1) for text in plain if text != plain[3] for word in ("start", "crash"))
 
