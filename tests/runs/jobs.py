@@ -71,7 +71,8 @@ def shapes_with_words():
                 yield job(bound, steps, word=word)
         for lemma in ("~A2 ~B2", "~A0 a", "A0 A1 A2 ~B3"):
             yield job(4, LOCK, [lemma], word)
-        yield job(3, ring("A", 7, critical) + ring("B", 6, critical), word=word)
+        for bound in (2, 3, 5):
+            yield job(bound, ring("A", 7, critical) + ring("B", 6, critical), word=word)
     for bound in (1, 2, 3):
         yield job(bound, BOTH_FIRST)
         yield job(bound, BOTH_FIRST, ["~A0 ~B0"])
@@ -100,5 +101,6 @@ def random_job(r):
     if word and all(" critical " in s for s in firsts):     # 55
         return random_job(r)
     known = [name for own in labels for name in own] + [v for v in names if any(f" {v}=" in s for s in steps)]
-    rows = [[r.choice(["", "~"]) + r.choice(known) for _ in range(r.choice([1, 2, 3, 5]))] for _ in range(r.choice([0, 0, 0, 0, 1] if crash else [0, 0, 1, 2]))]
-    return job(r.randint(1, 5), steps, map(" ".join, rows), word)
+    sizes = r.choices([1, 2, 3, 5], k=r.choice([0, 0, 0, 0, 1] if crash else [0, 0, 1, 2]))
+    lemmas = [" ".join(r.choice(["", "~"]) + r.choice(known) for _ in range(size)) for size in sizes]
+    return job(r.randint(1, 5), steps, lemmas, word)
