@@ -62,8 +62,8 @@ def faults(t):
     steps, items = t.steps, t.steps + t.variables
     firsts = [list(t.process).index(process) for process in (1, 2)]
     critical = [i for i in firsts if t.kind[i] == KINDS["critical"]]
-    words = [len(WORDS), *(range(1, len(WORDS)) if len(critical) == 2 else [])]     # 55 comes with a word
-    counts = {"bound": [0, 100], "word": words, "steps": [0, steps - 1, steps + 1, STEPS + 1]}
+    yield from (("word", None, value) for value in (len(WORDS), 255, *(range(1, len(WORDS)) if len(critical) == 2 else ())))     # 55
+    counts = {"bound": [0, 100], "steps": [0, steps - 1, steps + 1, STEPS + 1]}
     counts |= {"variables": [t.variables - 1, t.variables + 1], "lemmas": [t.lemmas - 1, t.lemmas + 1, LEMMAS + 1]}
     yield from ((name, None, value) for name, values in counts.items() for value in [*values, -1])   # -1: the largest number
     for i in range(steps):
