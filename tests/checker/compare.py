@@ -151,7 +151,8 @@ def compared(check, how_many, seed):
         if want != got:
             wrong += 1
             if wrong < 10:
-                print(f"job {i % len(jobs)}, {text!r}: wanted {want[:2]}, got {got[:2]},", "same" if want[2] == got[2] else "other", "buffers")
+                buffers = "same buffer" if want[2] == got[2] else "another buffer"
+                print(f"job {i % len(jobs)}, {text!r}: wanted {want[:2]}, got {got[:2]}, {buffers}")
     print(f"the checker: {how_many} random replies, {wrong} differ;", ", ".join(f"{n}: {seen[n]}" for n in sorted(seen)) + ";",
           ", ".join(f"65 {name}: {parts[name]}" for name in PARTS))
     counts = [*(seen[n] for n in (0, 51, 61, 62, 63, 64, 65, 66)), *(parts[name] for name in PARTS), *(words[word] for word in (0, 1, 2))]

@@ -1,4 +1,5 @@
-"""Filers with one fault each, against a clause of S-1 or the word of S-2: the jobs of a test must tell each of them from the second filer."""
+"""Filers with one fault each, against a clause of S-1 or the word of S-2: the jobs of a test must tell each of them from the second
+filer."""
 import filer
 
 

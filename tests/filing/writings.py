@@ -79,7 +79,8 @@ def comment(r):
 
 
 def respelt(r, text):
-    """Another writing of the same job, within the limits: comments, lemmas and names in any order, repeats, spaces, lemmas in both signs."""
+    """Another writing of the same job, within the limits: comments, lemmas and names in any order, repeats, spaces, lemmas in both
+    signs."""
     line_1, steps, lemmas = filer.parts(text)
     names, rows = list(filer.items(steps)), [line.split() for line in lemmas]
     for more in r.choice([1, 2, 5]), 0:

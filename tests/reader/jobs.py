@@ -1,6 +1,7 @@
 """Random job texts, whole and damaged."""
 VARIABLES = [b"a", b"b", b"if", b"x1", b"z", b"q9", b"ma", b"e"]
-PIECES = [b" ", b"\n", b"~", b"=", b"a", b"A", b"B0", b"goto", b" goto ", b" else ", b"lemmas\n", b"0", b"1", b"2", b"if ", b"maybe ", b"critical ", b"\t", b"\x7f", b"bound 1\n", b" start\n", b" crash\n", b" start", b" crash"]
+PIECES = [b" ", b"\n", b"~", b"=", b"a", b"A", b"B0", b"goto", b" goto ", b" else ", b"lemmas\n", b"0", b"1", b"2", b"if ", b"maybe "]
+PIECES += [b"critical ", b"\t", b"\x7f", b"bound 1\n", b" start\n", b" crash\n", b" start", b" crash"]
 WORDS = [b"", b" start", b" crash"]
 
 
