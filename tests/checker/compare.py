@@ -3,6 +3,7 @@
 
 Use: `tests/checker/compare.py [HOW_MANY [SEED]]` (10,000 replies, seed 1)."""
 import collections
+import functools
 import os
 import random
 import sys
@@ -53,10 +54,21 @@ def model(variables, clauses):
     return found and [x if found.get(x) else -x for x in range(1, variables + 1)]
 
 
+def stored(name):
+    with open(os.path.join(HERE, "../generator/jobs", name + ".txt")) as file:
+        return file.read()
+
+
+@functools.cache
+def of(job):
+    """A job's table, N and the clauses."""
+    return tables.table(job), *tables.clauses(job)
+
+
 def expected(check):
     """Both checkers on the list of expected.txt, and on 45, 51 and 60, which change no byte."""
-    text = open(os.path.join(HERE, "../generator/jobs/one_bit.txt")).read()
-    known = {}
+    text = stored("one_bit")
+    table, variables, _ = of(text)
     wrong = count = 0
 
     def hold(want, got, what):
@@ -66,29 +78,19 @@ def expected(check):
             wrong += 1
             print(f"{what!r}: wanted {want}, got {got}")
 
-    def of(job):
-        """The table, N and the clauses."""
-        if job not in known:
-            known[job] = tables.table(job), *tables.clauses(job)
-        return known[job]
-
     def hold_both(number, place, job, reply, buffer, what):
-        table, variables, clauses = of(job)
-        second = checker.check(variables, clauses, reply, buffer)
-        hold((number, place, *second), (*second[:2], *check(table, reply, buffer)), what)
+        second = checker.check(*of(job)[1:], reply, buffer)
+        hold((number, place, *second), (*second[:2], *check(of(job)[0], reply, buffer)), what)
 
     for job, number, place, reply in replies.by_hand():
-        variables = of(job.decode())[1]
-        hold_both(number, place, job.decode(), reply, bytes(range(200, 203 + variables)), (job, reply))
-    table, variables, _ = of(text)
+        hold_both(number, place, job.decode(), reply, bytes(range(200, 203 + of(job.decode())[1])), (job, reply))
     old = bytes(range(200, 213))
     long = b"c" * checker.LONGEST
     hold((61, 1, bytes(variables) + old[variables:]), check(table, long, old), "no byte too many")
-    unfit = [("bound", 0), ("word", 3), ("word", 255)]
     for reply in b"", SOLVED, long + b"c":
         for length in 0, 9, 10, 13:
             buffer, what = old[:length], f"a reply of {len(reply)} bytes, a buffer of {length}"
-            for name, value in unfit:
+            for name, value in ("bound", 0), ("word", 3), ("word", 255):
                 hold((45, 0, buffer), check(tables.changed(table, name, None, value), reply, buffer), f"{what}, {name} {value}")
             if length < variables:
                 hold_both(51, 0, text, reply, buffer, what)
@@ -114,11 +116,6 @@ def models(table, variables, clauses):
     return [model(variables, [clause for clause in clauses[:count] if clause]) for count in sorted(parts)]
 
 
-def stored(name):
-    with open(os.path.join(HERE, "../generator/jobs", name + ".txt")) as file:
-        return file.read()
-
-
 def job_texts():
     """Jobs without a word and with each: with a run, with none, and with an empty clause of A's, of B's and of both."""
     plain = [stored("one_bit"), stored("larger"), "bound 2\nA0 maybe goto A0\nB0 maybe goto B0\nlemmas\n"]
@@ -133,8 +130,7 @@ def compared(check, how_many, seed):
     r = random.Random(seed)
     jobs = []
     for text in job_texts():
-        table, (variables, clauses) = tables.table(text), tables.clauses(text)
-        jobs.append((table, variables, clauses, models(table, variables, clauses)))
+        jobs.append((*of(text), models(*of(text))))
     seen, parts, words, wrong = collections.Counter(), collections.Counter(), collections.Counter(), 0
     for i in range(how_many):
         table, variables, clauses, solutions = jobs[i % len(jobs)]
