@@ -26,7 +26,7 @@ class FormAnswer(ctypes.Structure):
 class Reading(ctypes.Structure):
     """The table stands behind the answer, with its names."""
 
-    _fields_ = Answer._fields_ + tables.PROGRAM + tables.WORDS + tables.ROWS
+    _fields_ = Answer._fields_ + tables.PROGRAM + tables.SPELLINGS + tables.ROWS
 
 
 def table(reading):

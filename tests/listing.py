@@ -28,5 +28,5 @@ variables = {variables}
 abbrev pub clauses : List (List ℤ)
 clauses =""")
 for row in rows:
-    print("    (" + " ∷ ".join(number(n) for n in row) + " ∷ []) ∷")
+    print("    (" + " ∷ ".join([*map(number, row), "[]"]) + ") ∷")
 print("    []")

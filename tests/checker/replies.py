@@ -1,4 +1,24 @@
-"""Random replies: as solvers print them, and damaged in every way that document 01 speaks of."""
+"""Random replies: as solvers print them, and damaged in every way that document 01 speaks of. Replies whose answers were written by
+hand."""
+import os
+
+HERE = os.path.dirname(os.path.abspath(__file__))
+
+
+def unescaped(text):
+    return text.encode().decode("unicode_escape").encode("latin-1")
+
+
+def by_hand():
+    """The lines of expected.txt: job, number, place, reply."""
+    job = None
+    with open(os.path.join(HERE, "expected.txt")) as lines:
+        for line in lines:
+            if line.startswith("="):
+                job = unescaped(line.rstrip("\n")[2:])
+            elif not line.startswith("#"):
+                number, place = map(int, line.split()[:2])
+                yield job, number, place, unescaped(line.rstrip("\n")[7:])
 
 
 def lines_of(r, numbers):

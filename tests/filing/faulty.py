@@ -1,4 +1,5 @@
-"""Filers with one fault each, against a clause of S-1: the jobs of a test must tell each of them from the second filer."""
+"""Filers with one fault each, against a clause of S-1 or the word of S-2: the jobs of a test must tell each of them from the second
+filer."""
 import filer
 
 
@@ -6,9 +7,12 @@ class Right:
     """S-1 in parts, each of which can be put wrong."""
 
     def __init__(self, text):
-        self.bound, self.steps, self.lemmas = filer.parts(text)
+        self.first, self.steps, self.lemmas = filer.parts(text)
         self.item = filer.items(self.steps)
         self.text = text
+
+    def line_1(self):
+        return self.first
 
     def kept(self):
         return self.steps
@@ -31,7 +35,27 @@ class Right:
     def form(self):
         rows = [line.split() for line in self.lemmas]
         rows = self.lines([self.once(row) for row in rows if not self.both_signs(row)])
-        return b"".join(line + b"\n" for line in [self.bound, *self.kept(), b"lemmas", *map(b" ".join, rows)])
+        return b"".join(line + b"\n" for line in [self.line_1(), *self.kept(), b"lemmas", *map(b" ".join, rows)])
+
+
+class WordLost(Right):
+    def line_1(self):
+        return self.first.removesuffix(b" start").removesuffix(b" crash")
+
+
+class StartLost(Right):
+    def line_1(self):
+        return self.first.removesuffix(b" start")
+
+
+class CrashLost(Right):
+    def line_1(self):
+        return self.first.removesuffix(b" crash")
+
+
+class CrashAsStart(Right):
+    def line_1(self):
+        return self.first.replace(b"crash", b"start")
 
 
 class StepsSorted(Right):

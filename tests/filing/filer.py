@@ -1,4 +1,5 @@
-"""A second filer, written from document 02 alone (S-1). It works on the text's own words; only the refusals are the second reader's."""
+"""A second filer, written from document 02 alone (S-1, and S-2 for the word of line 1). It works on the text's own words; only the
+refusals are the second reader's."""
 import functools
 import os
 import sys
@@ -42,13 +43,13 @@ def remaining(text):
 
 
 def agree(a, b):
-    """Bound, step lines and the remaining lemmas agree."""
+    """Bound and word, step lines and the remaining lemmas agree."""
     return parts(a)[:2] == parts(b)[:2] and remaining(a) == remaining(b)
 
 
 def filed(text):
-    bound, steps, _ = parts(text)
+    line_1, steps, _ = parts(text)
     name = list(items(steps))
     rows = sorted(sorted(names) for names in remaining(text))
     lemmas = [b" ".join(b"~" * sign + name[x] for x, sign in row) for row in rows]
-    return b"".join(line + b"\n" for line in [bound, *steps, b"lemmas", *lemmas])
+    return b"".join(line + b"\n" for line in [line_1, *steps, b"lemmas", *lemmas])

@@ -4,6 +4,7 @@ import string
 import filer
 
 STEPS, LEMMAS, NAMES, TEXT = 100, 100, 64, 32768
+WORDS = [b"", b" start", b" crash"]
 ALNUM = string.ascii_letters + string.digits
 # lemmas, and the most names of one
 SIZES = [(0, 1), (1, 4), (4, 4), (8, 3), (12, 6), (20, 12)]
@@ -69,7 +70,8 @@ def job(r):
         names = [names[x] for x in sorted(r.sample(range(len(names)), r.randint(2, len(names))))]
     count, longest = (LEMMAS, NAMES) if large else r.choice(SIZES)
     lemmas = lemmas_of(r, names, count, longest, r.choice([0, 0.5] if large else [0.3, 0.8]))
-    return b"\n".join([b"bound %d" % r.randint(1, 99), *lines, b"lemmas", *map(b" ".join, lemmas), b""])
+    line_1 = b"bound %d" % r.randint(1, 99) + r.choice(WORDS)
+    return b"\n".join([line_1, *lines, b"lemmas", *map(b" ".join, lemmas), b""])
 
 
 def comment(r):
@@ -77,11 +79,12 @@ def comment(r):
 
 
 def respelt(r, text):
-    """Another writing of the same job, within the limits: comments, lemmas and names in any order, repeats, spaces, lemmas in both signs."""
-    bound, steps, lemmas = filer.parts(text)
+    """Another writing of the same job, within the limits: comments, lemmas and names in any order, repeats, spaces, lemmas in both
+    signs."""
+    line_1, steps, lemmas = filer.parts(text)
     names, rows = list(filer.items(steps)), [line.split() for line in lemmas]
     for more in r.choice([1, 2, 5]), 0:
-        lines = [bound]
+        lines = [line_1]
         for line in [*steps, b"lemmas"]:
             lines += [comment(r) for _ in range(r.randrange(more + 1) * r.randrange(2))] + [line]
         others = [[name, signed(r, r.choice(names)), b"~" + name] for name in r.choices(names, k=r.randrange(more + 1))]
@@ -97,18 +100,21 @@ def respelt(r, text):
 
 
 def changed(r, text):
-    """A job that may differ in one place: the bound, a step's value or place, a lemma that is gone, or a name of one."""
+    """A job that may differ in one place: the bound, the word, a step's value or place, a lemma that is gone, or a name of one."""
     lines = text.split(b"\n")[:-1]
     at = lines.index(b"lemmas", 1)
-    way = r.randrange(6 if at + 1 < len(lines) else 3)
+    way = r.randrange(7 if at + 1 < len(lines) else 4)
     i, j = (r.randrange(1, at) for _ in range(2))
+    _, bound, *word = lines[0].split(b" ")
     if way == 0:
-        lines[0] = b"bound %d" % r.randint(1, 99)
+        lines[0] = b" ".join([b"bound", b"%d" % r.randint(1, 99), *word])
     elif way == 1:
-        lines[i] = lines[i].replace(b"=1 ", b"=0 ")
+        lines[0] = b"bound " + bound + r.choice(WORDS)
     elif way == 2:
-        lines[i], lines[j] = lines[j], lines[i]
+        lines[i] = lines[i].replace(b"=1 ", b"=0 ")
     elif way == 3:
+        lines[i], lines[j] = lines[j], lines[i]
+    elif way == 4:
         del lines[r.randrange(at + 1, len(lines))]
     else:
         line = r.randrange(at + 1, len(lines))
@@ -127,10 +133,11 @@ def filled(lines, lemmas):
 
 def largest():
     """Two jobs of 32,768 bytes with 100 lemmas of 64 names, the last one first and each with its names backwards. All of a job's lemmas
-    have the first 57 names alike: of the first steps, or of the last variables. Then the signs of seven names tell them apart."""
+    have the first 57 names alike: of the first steps, or, with a word, of the last variables. Then the signs of seven names tell them
+    apart."""
     labels = [b"A%d" % i for i in range(99)] + [b"B0"]
     variables = [b"%c%d" % (97 + i // 10, i % 10) for i in range(STEPS)]
-    lines = [b"bound 99", *(b"%s if %s=1 goto %s else %s" % (l, v, l, l) for l, v in zip(labels, variables)), b"lemmas"]
-    for names in labels[:NAMES], variables[-NAMES:]:
+    lines = [*(b"%s if %s=1 goto %s else %s" % (l, v, l, l) for l, v in zip(labels, variables)), b"lemmas"]
+    for line_1, names in (b"bound 99", labels[:NAMES]), (b"bound 99 crash", variables[-NAMES:]):
         signs = [[k >> i & 1 for i in range(NAMES)] for k in range(LEMMAS)]
-        yield filled(lines, [[b"~" * sign + name for sign, name in zip(row, names[::-1])] for row in signs[::-1]])
+        yield filled([line_1, *lines], [[b"~" * sign + name for sign, name in zip(row, names[::-1])] for row in signs[::-1]])

@@ -1,7 +1,11 @@
 #!/usr/bin/env python3
 """Checks larger.cnf against document 01, not by reading the job but from a
 hand-made table of jobs/larger.txt.  Literals are tuples such as ("A0", 1) for
-"at A0 at time 1"; numbers come from one list of all of them in 01's order."""
+"at A0 at time 1"; numbers come from one list of all of them in 01's order.
+
+check_larger.py start, check_larger.py crash   check the text on standard
+input, printed for the same job with that word on line 1 (02, S-2)."""
+import sys
 
 A_STEPS = ["A0", "A1", "A2", "A3", "A4", "A5", "Aend"]
 B_STEPS = ["B", "B1", "B2", "Bw", "Bcs", "B9"]
@@ -86,9 +90,18 @@ for words in ("-A5 -Bcs", "a A0 A1"):
     for t in range(R + 1):
         clause(words, t)
 
+words = sys.argv[1:]
+if words:
+    for text in ("-b", "-a", "-tn", "A0", "B"):
+        clause(text, 0)
+if words == ["crash"]:
+    for text in ("A5", "Bcs"):
+        clause(text, R)
+
 head = ["c ~ two flags and a turn bit; A looks in two steps, B at one flag only, and B ends where both ways lead back",
         "c ~ the critical steps and the way back",
         f"p cnf {len(names)} {len(clauses)}"]
-same = open("larger.cnf").read() == "\n".join(head + clauses) + "\n"
+printed = sys.stdin if words else open("larger.cnf")
+same = printed.read() == "\n".join(head + clauses) + "\n"
 print(f"{len(names)} variables, {len(clauses)} clauses:", "equal" if same else "DIFFERENT")
 raise SystemExit(not same)

@@ -25,7 +25,7 @@ def put(t, name, row):
 
 def table(job):
     """The table of a job as the second reader has it, each place in order."""
-    t = calls.Reading(bound=job.bound, steps=len(job.labels), variables=len(job.names), lemmas=len(job.lemmas))
+    t = calls.Reading(bound=job.bound, word=job.word, steps=len(job.labels), variables=len(job.names), lemmas=len(job.lemmas))
     for name in "process", "kind", "to", "other", "variable", "value":
         put(t, name, getattr(job, name))
     for name in "labels", "names":
@@ -74,12 +74,13 @@ def nonsense(r):
 def main():
     count = int(sys.argv[1]) if len(sys.argv) > 1 else 10000
     r = random.Random(int(sys.argv[2]) if len(sys.argv) > 2 else 1)
-    read, seen, by_hand = calls.reader(), collections.Counter(), set()
+    read, seen, words, by_hand = calls.reader(), collections.Counter(), collections.Counter(), set()
 
     def hold(text):
         want, got = expected(text), read(text)
         assert want == got, (want[:2], got[:2], [name for name in want[2] if want[2][name] != got[2][name]], text[:1000])
         seen[want[0]] += 1
+        words[want[2]["word"]] += want[0] == 0
 
     told = list(vectors())
     for number, place, text in told:
@@ -89,10 +90,13 @@ def main():
     numbers = {0, *range(1, 8), *range(10, 15), *range(16, 19), *range(20, 25), 30, 32, *range(41, 45), 55, 98, 99}
     assert by_hand == numbers, numbers ^ by_hand
     seen.clear()
+    words.clear()
     for _ in range(count):
         text = jobs.whole(r)
         hold(jobs.damaged(r, text) if r.random() < 0.7 else text)
-    print(f"the reader: {len(told)} answers by hand, {count} random jobs ({seen[0]} accepted, {len(seen) - 1} numbers),", end=" ")
+    assert all(words[word] >= seen[0] // 4 for word in (0, 1, 2)) and seen[5] and seen[55], (words, seen)
+    print(f"the reader: {len(told)} answers by hand, {count} random jobs ({seen[0]} accepted, {words[1]} start, {words[2]} crash,"
+          f" {len(seen) - 1} numbers),", end=" ")
     for text in nonsense(r):
         hold(text)
     print(f"{sum(seen.values()) - count} texts of nonsense")

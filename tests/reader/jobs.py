@@ -1,6 +1,8 @@
 """Random job texts, whole and damaged."""
 VARIABLES = [b"a", b"b", b"if", b"x1", b"z", b"q9", b"ma", b"e"]
-PIECES = [b" ", b"\n", b"~", b"=", b"a", b"A", b"B0", b"goto", b" goto ", b" else ", b"lemmas\n", b"0", b"1", b"2", b"if ", b"maybe ", b"critical ", b"\t", b"\x7f", b"bound 1\n"]
+PIECES = [b" ", b"\n", b"~", b"=", b"a", b"A", b"B0", b"goto", b" goto ", b" else ", b"lemmas\n", b"0", b"1", b"2", b"if ", b"maybe "]
+PIECES += [b"critical ", b"\t", b"\x7f", b"bound 1\n", b" start\n", b" crash\n", b" start", b" crash"]
+WORDS = [b"", b" start", b" crash"]
 
 
 def labels(r, letter, count):
@@ -22,12 +24,12 @@ def step(r, label, own):
 
 
 def whole(r):
-    """A job that is accepted but for 55 and for names that no step mentions."""
+    """A job that is accepted but for 55 and for names that no step mentions: a third without a word, a third with each."""
     many = r.random() < 0.05
     a, b = (labels(r, p, r.randint(1, 50 if many else 5)) for p in (b"A", b"B"))
     steps = [step(r, l, a) for l in a] + [step(r, l, b) for l in b]
     r.shuffle(steps)
-    lines = [b"bound " + str(r.randint(1, 99)).encode()]
+    lines = [b"bound " + str(r.randint(1, 99)).encode() + r.choice(WORDS)]
     for s in steps:
         if r.random() < 0.1:
             lines.append(b"~ " + bytes(r.randint(32, 126) for _ in range(r.randrange(9))))
@@ -42,7 +44,7 @@ def whole(r):
 
 def damaged(r, text):
     for _ in range(r.randint(1, 3)):
-        at = r.randrange(len(text) + 1)
+        at = r.randrange((len(text) if r.random() < 0.85 else text.find(b"\n") + 1) + 1)     # line 1 more often than its share
         way = r.randrange(5)
         if way == 0:
             text = text[:at] + text[at + r.randint(1, 3):]

@@ -1,4 +1,4 @@
-"""A second reader of job texts, written from document 01 alone ('The job text', 'What is turned away').
+"""A second reader of job texts, written from documents 01 ('The job text', 'What is turned away') and 02 (S-2, the words) alone.
 
 It goes through the lines from the first to the last, and through a line from left to right, and raises the first refusal."""
 import string
@@ -9,6 +9,7 @@ TEXT = 32768
 LINE = 1022
 ALNUM = (string.ascii_letters + string.digits).encode()
 KINDS = {b"maybe": 1, b"critical": 2, b"if": 4}
+WORDS = {b"": 0, b" start": 1, b" crash": 2}
 
 
 class Refused(Exception):
@@ -18,7 +19,7 @@ class Refused(Exception):
 
 class Job:
     def __init__(self):
-        self.bound = 0
+        self.bound = self.word = 0
         self.labels, self.process, self.kind, self.to, self.other, self.variable, self.value = [], [], [], [], [], [], []
         self.names, self.lemmas = [], []
 
@@ -68,10 +69,15 @@ def lines(text):
 
 
 def bound(line, number):
-    word, _, digits = line.partition(b" ")
-    if word != b"bound" or not (digits.isdigit() and len(digits) <= 2) or digits.startswith(b"0"):
-        raise Refused(5, number)
-    return int(digits)
+    """R and the word: line 1 is `bound `, R, and nothing or one of the words behind it."""
+    here = Line(line, number)
+    here.skip(b"bound ", 5)
+    rest = line[here.at:]
+    digits = rest[: len(rest) - len(rest.lstrip(string.digits.encode()))]
+    word = rest[len(digits):]
+    if not 1 <= len(digits) <= 2 or digits.startswith(b"0") or word not in WORDS:
+        here.refuse(5)
+    return int(digits), WORDS[word]
 
 
 def step(job, line, number):
@@ -128,7 +134,7 @@ def at_lemmas(job, waiting, number):
             found.append(c + 1)
         job.to.append(found[0])
         job.other.append(found[1])
-    if all(job.kind[job.process.index(p)] == 2 for p in (1, 2)):
+    if job.word and all(job.kind[job.process.index(p)] == 2 for p in (1, 2)):
         raise Refused(55, number)
 
 
@@ -157,7 +163,7 @@ def read(text):
         raise Refused(1, 0)
     job, waiting, told = Job(), [], lines(text)
     number, line = next(told)
-    job.bound = bound(line, number)
+    job.bound, job.word = bound(line, number)
     for number, line in told:
         if line is None:
             raise Refused(6, number)

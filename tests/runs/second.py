@@ -1,5 +1,5 @@
-"""A second reading off and a second run to values, written from document 01 alone ('Meaning', 'Numbering', 'Calls and buffers'; 51, 67
-and 69). The meaning of a turn and of a lemma is the search's (`../search.py`)."""
+"""A second reading off and a second run to values, written from documents 01 ('Meaning', 'Numbering', 'Calls and buffers'; 51, 67 and 69)
+and 02 (S-2) alone. The meaning of a turn and of a lemma is the search's (`../search.py`)."""
 import search
 
 PROCESSES = ("A", "B")
@@ -29,13 +29,22 @@ class Second:
         return standing and all(bit <= 1 for bit in bits) and turn in ((1, 2) if t < self.r else (0,))
 
     def time_fits(self, run, t):
-        """'bytes, lemma, equal states, turn before'"""
+        """'bytes, lemma, equal states, turn before', and what the word asks of this time."""
         if not self.bytes_fit(run, t):
             return False
         state = self.state(run, t)
+        if not self.word_fits(state, t):
+            return False
         if not self.job.allowed(state) or any(self.state(run, u) == state for u in range(t)):
             return False
         return t == 0 or self.job.after(self.state(run, t - 1), PROCESSES[run[t * self.group - 1] - 1]) == state
+
+    def word_fits(self, state, t):
+        """'69 also at time 0 for a wrong start, at r for no crash'"""
+        *standing, bits = state
+        if t == 0 and self.job.word in ("start", "crash"):
+            return standing == [self.steps[own[0]] for own in self.own] and not any(bits)
+        return t < self.r or self.job.word != "crash" or all(self.job.steps[name][0] == "critical" for name in standing)
 
     def broken(self, run):
         """The first time at which the run breaks a rule, or None."""

@@ -7,6 +7,8 @@ make_largest.py        2,093,352 clauses, 50,376,850 bytes.  100 lemmas, each
                        first; comments fill the job up to 32,768 bytes.
 make_largest.py plain  2,083,352 clauses, 46,182,056 bytes.  No lemmas, no
                        comments; values 1; B's step last.
+make_largest.py crash  The first one with the word of 02's S-2: 104 clauses
+                       more, two of them empty.
 
 Every step assigns a variable of its own, so that 100 are mentioned."""
 
@@ -19,7 +21,7 @@ a_names = (["A"] + ["A" + x for x in every] + ["A0" + x for x in every])[:99]
 step_names = a_names + ["B"] if plain else ["B"] + a_names
 variable_names = ([x + y for x in "ab" for y in every] + list(ascii_lowercase))[-100:]
 
-job = ["bound 99"]
+job = ["bound 99 crash" if sys.argv[1:] == ["crash"] else "bound 99"]
 value = 1 if plain else 0
 steps = [f"{s} {v}={value} goto {s[0]}" for s, v in zip(step_names, variable_names)]
 lemmas = ["lemmas"]
