@@ -8,7 +8,9 @@
 enum { STEPS = 100, LEMMAS = 100, NAMES = 64, IF = 4, ASSIGNMENT = 3, MOST_BYTES = 16777216 };
 
 struct table {
-    size_t bound, steps, variables;
+    size_t bound;
+    uint8_t word;
+    size_t steps, variables;
     uint8_t process[STEPS], kind[STEPS];
     uint16_t to[STEPS], other[STEPS];
     uint8_t variable[STEPS], value[STEPS];
