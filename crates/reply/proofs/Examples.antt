@@ -139,5 +139,13 @@ judged :
     × (checked (oneBit 1 0 [] []) (bytes "s SATISFIABLE\nv 1 0\n") (replicate 11 9) ≡ refused 64 2 (0 ∷ 0 ∷ 0 ∷ 0 ∷ 0 ∷ 0 ∷ 0 ∷ 0 ∷ 0 ∷ 0 ∷ 9 ∷ []))
     × (checked (oneBit 0 0 [] []) (bytes "") (replicate 11 9) ≡ refused 45 0 (replicate 11 9))
     × (checked (oneBit 1 0 [] []) (bytes "") (replicate 9 9) ≡ refused 51 0 (replicate 9 9))
-unfolding bytes oneBit each every all within passing first cut starts is front decimal allowed unsigned token says opening sayIn numbersIn valueLineIn valueLinesIn closing heardIn valuesRead checked fitness.larger fitness.isStep fitness.otherFits fitness.variableFits fitness.valueFits fitness.usedStep fitness.unusedStep fitness.mentioned fitness.stepFits fitness.stepsFit fitness.firstOf fitness.bothStart fitness.bothCritical fitness.programFits fitness.itemFits fitness.placeFits fitness.lengthFits fitness.placesFit fitness.lemmaFits fitness.lemmasFit fitness.fit exclusion.exclusion exclusion.excluding numbering.helpersFor numbering.pairsBelow numbering.helpers numbering.item numbering.turn numbering.helper numbering.difference numbering.total table.actionOf table.process table.action table.ownBelow table.lemma clauses.someStep clauses.excludes clauses.leads clauses.turns clauses.assigning clauses.assignments clauses.variables clauses.differ clauses.between clauses.lemmaClauses clauses.clauses satisfaction.falseClause
+unfolding bytes oneBit each every all within passing first cut starts is front decimal allowed unsigned token says opening sayIn
+    numbersIn valueLineIn valueLinesIn closing heardIn valuesRead checked fitness.larger fitness.isStep fitness.otherFits
+    fitness.variableFits fitness.valueFits fitness.usedStep fitness.unusedStep fitness.mentioned fitness.stepFits fitness.stepsFit
+    table.firstOf fitness.bothStart fitness.bothCritical fitness.programFits fitness.itemFits fitness.placeFits fitness.lengthFits
+    fitness.placesFit fitness.lemmaFits fitness.lemmasFit fitness.fit exclusion.exclusion exclusion.excluding numbering.helpersFor
+    numbering.pairsBelow numbering.helpers numbering.item numbering.turn numbering.helper numbering.difference numbering.total
+    table.actionOf table.process table.action table.ownBelow table.lemma clauses.someStep clauses.excludes clauses.leads clauses.turns
+    clauses.assigning clauses.assignments clauses.variables clauses.differ clauses.between clauses.lemmaClauses clauses.wordClauses
+    clauses.freeClauses clauses.clauses satisfaction.falseClause
 judged = (refl, refl, refl, refl, refl, refl)
