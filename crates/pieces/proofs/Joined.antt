@@ -13,7 +13,7 @@ use lib.ListN.{length, drop, length-drop, drop-of-length-le}
 use lib.Seq.{drop-drop, take-at}
 use Rattle.job.specs.declared.Job.{Job}
 use Rattle.job.specs.Literals.{Clause, signed}
-use Rattle.job.specs.Clauses.{clauses}
+use Rattle.job.specs.Clauses.{freeClauses, clauses}
 use Rattle.job.specs.Fitness.{fit}
 use Rattle.totals.specs.Totals.{totalsOf}
 use Rattle.cnf.specs.Piece.{leastRoom, fitting, flat, piece, written, bufferAfter}
@@ -125,7 +125,7 @@ module _ (J : Job) (h : fit J ≡ true) where
       (calls-from (c + k) olds (omega arith) (wide .1) (fewer c (length old) (length olds) low (wide .0) l))
 
 pub all-clauses : (J : Job) → fit J ≡ true → AllClauses J
-unfolding clauses totalsOf
+unfolding clauses freeClauses totalsOf
 all-clauses J h = record {
   some = omega arith;
   short = clauses-short J h;

@@ -7,7 +7,7 @@ use Prim.Native.Nat.{ℕ, zero, suc, _+_, _≤_, _<_}
 use native.Mathlib.Omega.{arith}
 use lib.Dec.{eqb}
 use lib.ListN.{length, length-append, length-map}
-use Rattle.lists.specs.Rows.{each}
+use Rattle.lists.specs.Rows.{each, tab}
 use Rattle.lists.proofs.RowLaws.{length-tab}
 use Rattle.lists.proofs.TestLaws.{passed}
 use Rattle.job.specs.declared.Job.{Job}
@@ -18,11 +18,13 @@ use Rattle.job.specs.declared.Action.{Action}
 use Rattle.job.specs.declared.Action.the-variants.{Maybe, Critical, Assign, If}
 use Rattle.job.specs.Literals.{Clause}
 use Rattle.job.specs.Table.{Process, A, B, m, n, w, r, action, own, lemma}
+use Rattle.job.specs.Words.{asksStart, asksCrash}
+use Rattle.job.specs.Meaning.{isCritical}
 use Rattle.job.specs.Numbering.{item}
 use Rattle.job.specs.Exclusion.{excluding, exclusion}
 use Rattle.job.specs.Clauses.{assigns, someStep, excludes, branches, leads, turns, assigning, assignments, keeps, variables}
 use Rattle.job.specs.Clauses.{stepDiffers, bitDiffers, differ, excludesAt, turnsAt, variablesAt, differAt, between}
-use Rattle.job.specs.Clauses.{atTime, lemmaClauses, clauses}
+use Rattle.job.specs.Clauses.{startClauses, someCritical, wordClauses, atTime, lemmaClauses, freeClauses, clauses}
 use Rattle.job.specs.Fitness.{fit}
 use Rattle.job.proofs.FitnessLaws.{Sizes, fit-sizes, fit-lemmas, lemma-is}
 use Rattle.pieces.specs.AllClauses.{longest, Short}
@@ -136,6 +138,26 @@ module _ (P : Program) (sizes : Sizes P) where
       differences : Short (each (suc t) λ u. differAt P u (suc t))
       differences = each-short (suc t) (λ u. differAt P u (suc t)) λ u l. differ-short _ _ _
 
+  -- ---- what the word asks
+
+  start-short : (here : ℕ → ℕ) → Short (startClauses P here)
+  unfolding startClauses
+  start-short here =
+      short-both (tab (n P) λ x. Off (here (m P + x)) ∷ []) _ (each-short (n P) _ λ x l. (omega arith, tt)) (omega arith, (omega arith, tt))
+
+  critical-short : (p : Process) (here : ℕ → ℕ) → length (someCritical P p here) ≤ longest
+  unfolding someCritical
+  critical-short p here =
+      let steps = row-most (m P) (λ c. own P p c && isCritical (action P c)) (λ c. On (here c)) in
+      omega (arith, sizes .steps)
+
+  word-short : Short (wordClauses P)
+  unfolding wordClauses
+  word-short =
+      short-both (cond (asksStart P) (startClauses P (item P 0)) []) _
+      (cond-short (asksStart P) _ (start-short (item P 0)))
+      (cond-short (asksCrash P) _ (critical-short A (item P (r P)), (critical-short B (item P (r P)), tt)))
+
 -- ---- all clauses
 
 lemmas-short : (J : Job) → fit J ≡ true → Short (lemmaClauses J)
@@ -147,9 +169,9 @@ lemmas-short J h =
     let (_, most, _) = lemma-is (J .lengths) (J .items) (J .lemmas) (w P) (fit-lemmas J h) f k l in
     (rw (length-map, length-tab) (omega (arith, most)), tt)
 
-pub clauses-short : (J : Job) → fit J ≡ true → Short (clauses J)
-unfolding clauses
-clauses-short J h =
+free-short : (J : Job) → fit J ≡ true → Short (freeClauses J)
+unfolding freeClauses
+free-short J h =
     let P = J .program in
     let sizes = fit-sizes J h in
     let times : Short (each (r P) (between P)) = each-short (r P) (between P) (λ t l. between-short P sizes t) in (
@@ -161,3 +183,7 @@ clauses-short J h =
             (short-both (each (r P) (between P)) (lemmaClauses J) times (lemmas-short J h))),
       ),
     )
+
+pub clauses-short : (J : Job) → fit J ≡ true → Short (clauses J)
+unfolding clauses
+clauses-short J h = short-both (freeClauses J) (wordClauses (J .program)) (free-short J h) (word-short (J .program) (fit-sizes J h))
