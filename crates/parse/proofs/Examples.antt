@@ -1,4 +1,5 @@
--- 01's job and the short examples of its refusal table, read by the definition. The long ones (2, 7, 41) run as tests.
+-- 01's job, the short examples of its refusal table and 02's words of line 1, read by the definition. The long ones (2, 7, 41) run as
+-- tests.
 use mathlib.Core.Path.{_≡_, refl}
 use mathlib.Core.List.{List, [], _∷_, _++_, map}
 use Prim.Native.Nat.{ℕ}
