@@ -39,7 +39,8 @@ word-to stop most lo hi long ill s at m e r =
     w : List ℕ
     w = wordAt stop s (at .column)
 
-    go : (p q : Bool) → pickField p (refuse at long) (pickField q (went at (length (wordAt stop s (at .column)))) (refuse at ill)) .field ≡ Read
+    go : (p q : Bool) → pickField p (refuse at long) (pickField q (went at (length (wordAt stop s (at .column)))) (refuse at ill)) .field
+        ≡ Read
         → pickField p (refuse at long) (pickField q (went at (length (wordAt stop s (at .column)))) (refuse at ill)) .at .column
         ≡ at .column + length (wordAt stop s (at .column))
     go true q h = not-read long h
@@ -62,6 +63,7 @@ pub range-in : (s : List ℕ) (at : Cursor) (m : Moved) → m ≡ rangeField s a
 unfolding rangeField
 range-in s at m e r = go (within 49 57 (num s (at .column))) refl (ap (λ (x : Moved). x .field) (sym e) ∙ r)
   where
-    go : (p : Bool) → within 49 57 (num s (at .column)) ≡ p → pickField p (went at (cond (digit (num s (at .column + 1))) 2 1)) (refuse at 5) .field ≡ Read → at .column < length s
+    go : (p : Bool) → within 49 57 (num s (at .column)) ≡ p
+        → pickField p (went at (cond (digit (num s (at .column + 1))) 2 1)) (refuse at 5) .field ≡ Read → at .column < length s
     go true t h = byte-in s (at .column) (omega (arith, is-within 49 57 (num s (at .column)) t))
     go false t h = not-read 5 h

@@ -47,7 +47,8 @@ module _ (lo hi : ℕ) (s : List ℕ) (from to : ℕ) where
       ap (headed lo hi) (slice-cons from to s 0 h k)
       ∙ ap (λ (m : ℕ). within lo hi (getD s from 0) && allOf alnum (slice m to s)) (sym (add-one from))
 
-module _ (stop most lo hi long ill : ℕ) (s : List ℕ) (at : Cursor) (to : ℕ) (e : to ≡ at .column + length (wordAt stop s (at .column))) where
+module _ (stop most lo hi long ill : ℕ) (s : List ℕ) (at : Cursor) (to : ℕ)
+    (e : to ≡ at .column + length (wordAt stop s (at .column))) where
   pub word-long : most < to - at .column → refuse at long ≡ wordField stop most lo hi long ill s at
   unfolding wordField
   word-long h = rw (lt-ltb most (length (wordAt stop s (at .column))) (omega arith))

@@ -1,4 +1,5 @@
--- The three forms of a field reader with one definition, and what each promises: handed a cursor, lent one, and called with a line and a column.
+-- The three forms of a field reader with one definition, and what each promises: handed a cursor, lent one, and called with a line and a
+-- column.
 use mathlib.Core.Path.{_≡_}
 use Prim.Native.Nat.{ℕ}
 use mathlib.Core.List.{List, [], _∷_}

@@ -9,7 +9,10 @@ use fields::Field;
 use fields::Moved;
 
 fn read_name(s: &[u8], at: &mut Cursor) -> Field
-    ensures { λ r. ⌜ (r ≡ nameField (now (s .entry)) (now (at .entry)) .field) × (now (at .exit) ≡ nameField (now (s .entry)) (now (at .entry)) .at) ⌝ }
+    ensures { λ r. ⌜
+        (r ≡ nameField (now (s .entry)) (now (at .entry)) .field)
+        × (now (at .exit) ≡ nameField (now (s .entry)) (now (at .entry)) .at)
+        ⌝ }
 {
     let name = fields::name(s, *at);
     *at = name.at;
@@ -25,7 +28,10 @@ pub fn name_at(s: &[u8], line: usize, column: usize) -> Moved
 }
 
 fn read_space(s: &[u8], at: &mut Cursor) -> Field
-    ensures { λ r. ⌜ (r ≡ spaceField (now (s .entry)) (now (at .entry)) .field) × (now (at .exit) ≡ spaceField (now (s .entry)) (now (at .entry)) .at) ⌝ }
+    ensures { λ r. ⌜
+        (r ≡ spaceField (now (s .entry)) (now (at .entry)) .field)
+        × (now (at .exit) ≡ spaceField (now (s .entry)) (now (at .entry)) .at)
+        ⌝ }
 {
     let space = fields::space(s, *at);
     *at = space.at;
@@ -41,7 +47,10 @@ pub fn space_at(s: &[u8], line: usize, column: usize) -> Moved
 }
 
 fn read_variable(s: &[u8], at: &mut Cursor) -> Field
-    ensures { λ r. ⌜ (r ≡ variableField (now (s .entry)) (now (at .entry)) .field) × (now (at .exit) ≡ variableField (now (s .entry)) (now (at .entry)) .at) ⌝ }
+    ensures { λ r. ⌜
+        (r ≡ variableField (now (s .entry)) (now (at .entry)) .field)
+        × (now (at .exit) ≡ variableField (now (s .entry)) (now (at .entry)) .at)
+        ⌝ }
 {
     let variable = fields::variable(s, *at);
     *at = variable.at;
@@ -57,7 +66,10 @@ pub fn variable_at(s: &[u8], line: usize, column: usize) -> Moved
 }
 
 fn read_equals(s: &[u8], at: &mut Cursor) -> Field
-    ensures { λ r. ⌜ (r ≡ equalsField (now (s .entry)) (now (at .entry)) .field) × (now (at .exit) ≡ equalsField (now (s .entry)) (now (at .entry)) .at) ⌝ }
+    ensures { λ r. ⌜
+        (r ≡ equalsField (now (s .entry)) (now (at .entry)) .field)
+        × (now (at .exit) ≡ equalsField (now (s .entry)) (now (at .entry)) .at)
+        ⌝ }
 {
     let equals = fields::equals(s, *at);
     *at = equals.at;
@@ -73,7 +85,10 @@ pub fn equals_at(s: &[u8], line: usize, column: usize) -> Moved
 }
 
 fn read_bit(s: &[u8], at: &mut Cursor) -> Field
-    ensures { λ r. ⌜ (r ≡ bitField (now (s .entry)) (now (at .entry)) .field) × (now (at .exit) ≡ bitField (now (s .entry)) (now (at .entry)) .at) ⌝ }
+    ensures { λ r. ⌜
+        (r ≡ bitField (now (s .entry)) (now (at .entry)) .field)
+        × (now (at .exit) ≡ bitField (now (s .entry)) (now (at .entry)) .at)
+        ⌝ }
 {
     let bit = fields::bit(s, *at);
     *at = bit.at;
@@ -89,7 +104,10 @@ pub fn bit_at(s: &[u8], line: usize, column: usize) -> Moved
 }
 
 fn read_goto_word(s: &[u8], at: &mut Cursor) -> Field
-    ensures { λ r. ⌜ (r ≡ gotoField (now (s .entry)) (now (at .entry)) .field) × (now (at .exit) ≡ gotoField (now (s .entry)) (now (at .entry)) .at) ⌝ }
+    ensures { λ r. ⌜
+        (r ≡ gotoField (now (s .entry)) (now (at .entry)) .field)
+        × (now (at .exit) ≡ gotoField (now (s .entry)) (now (at .entry)) .at)
+        ⌝ }
 {
     let goto_word = fields::goto_word(s, *at);
     *at = goto_word.at;
@@ -105,7 +123,10 @@ pub fn goto_word_at(s: &[u8], line: usize, column: usize) -> Moved
 }
 
 fn read_to_label(s: &[u8], at: &mut Cursor) -> Field
-    ensures { λ r. ⌜ (r ≡ toField (now (s .entry)) (now (at .entry)) .field) × (now (at .exit) ≡ toField (now (s .entry)) (now (at .entry)) .at) ⌝ }
+    ensures { λ r. ⌜
+        (r ≡ toField (now (s .entry)) (now (at .entry)) .field)
+        × (now (at .exit) ≡ toField (now (s .entry)) (now (at .entry)) .at)
+        ⌝ }
 {
     let to_label = fields::to_label(s, *at);
     *at = to_label.at;
@@ -121,7 +142,10 @@ pub fn to_label_at(s: &[u8], line: usize, column: usize) -> Moved
 }
 
 fn read_else_word(s: &[u8], at: &mut Cursor) -> Field
-    ensures { λ r. ⌜ (r ≡ elseField (now (s .entry)) (now (at .entry)) .field) × (now (at .exit) ≡ elseField (now (s .entry)) (now (at .entry)) .at) ⌝ }
+    ensures { λ r. ⌜
+        (r ≡ elseField (now (s .entry)) (now (at .entry)) .field)
+        × (now (at .exit) ≡ elseField (now (s .entry)) (now (at .entry)) .at)
+        ⌝ }
 {
     let else_word = fields::else_word(s, *at);
     *at = else_word.at;
@@ -137,7 +161,10 @@ pub fn else_word_at(s: &[u8], line: usize, column: usize) -> Moved
 }
 
 fn read_other_label(s: &[u8], at: &mut Cursor) -> Field
-    ensures { λ r. ⌜ (r ≡ otherField (now (s .entry)) (now (at .entry)) .field) × (now (at .exit) ≡ otherField (now (s .entry)) (now (at .entry)) .at) ⌝ }
+    ensures { λ r. ⌜
+        (r ≡ otherField (now (s .entry)) (now (at .entry)) .field)
+        × (now (at .exit) ≡ otherField (now (s .entry)) (now (at .entry)) .at)
+        ⌝ }
 {
     let other_label = fields::other_label(s, *at);
     *at = other_label.at;
@@ -153,7 +180,10 @@ pub fn other_label_at(s: &[u8], line: usize, column: usize) -> Moved
 }
 
 fn read_step_end(s: &[u8], at: &mut Cursor) -> Field
-    ensures { λ r. ⌜ (r ≡ stepEndField (now (s .entry)) (now (at .entry)) .field) × (now (at .exit) ≡ stepEndField (now (s .entry)) (now (at .entry)) .at) ⌝ }
+    ensures { λ r. ⌜
+        (r ≡ stepEndField (now (s .entry)) (now (at .entry)) .field)
+        × (now (at .exit) ≡ stepEndField (now (s .entry)) (now (at .entry)) .at)
+        ⌝ }
 {
     let step_end = fields::step_end(s, *at);
     *at = step_end.at;
@@ -169,7 +199,10 @@ pub fn step_end_at(s: &[u8], line: usize, column: usize) -> Moved
 }
 
 fn read_bound_word(s: &[u8], at: &mut Cursor) -> Field
-    ensures { λ r. ⌜ (r ≡ boundField (now (s .entry)) (now (at .entry)) .field) × (now (at .exit) ≡ boundField (now (s .entry)) (now (at .entry)) .at) ⌝ }
+    ensures { λ r. ⌜
+        (r ≡ boundField (now (s .entry)) (now (at .entry)) .field)
+        × (now (at .exit) ≡ boundField (now (s .entry)) (now (at .entry)) .at)
+        ⌝ }
 {
     let bound_word = fields::bound_word(s, *at);
     *at = bound_word.at;
@@ -185,7 +218,10 @@ pub fn bound_word_at(s: &[u8], line: usize, column: usize) -> Moved
 }
 
 fn read_range(s: &[u8], at: &mut Cursor) -> Field
-    ensures { λ r. ⌜ (r ≡ rangeField (now (s .entry)) (now (at .entry)) .field) × (now (at .exit) ≡ rangeField (now (s .entry)) (now (at .entry)) .at) ⌝ }
+    ensures { λ r. ⌜
+        (r ≡ rangeField (now (s .entry)) (now (at .entry)) .field)
+        × (now (at .exit) ≡ rangeField (now (s .entry)) (now (at .entry)) .at)
+        ⌝ }
 {
     let range = fields::range(s, *at);
     *at = range.at;
@@ -201,7 +237,10 @@ pub fn range_at(s: &[u8], line: usize, column: usize) -> Moved
 }
 
 fn read_bound_end(s: &[u8], at: &mut Cursor) -> Field
-    ensures { λ r. ⌜ (r ≡ boundEndField (now (s .entry)) (now (at .entry)) .field) × (now (at .exit) ≡ boundEndField (now (s .entry)) (now (at .entry)) .at) ⌝ }
+    ensures { λ r. ⌜
+        (r ≡ boundEndField (now (s .entry)) (now (at .entry)) .field)
+        × (now (at .exit) ≡ boundEndField (now (s .entry)) (now (at .entry)) .at)
+        ⌝ }
 {
     let bound_end = fields::bound_end(s, *at);
     *at = bound_end.at;

@@ -17,7 +17,8 @@ use Rattle.scan.specs.declared.Found.the-variants.{At, Nothing}
 use Rattle.fields.specs.Fields.{pickField, went, refuse, digit, rangeField, startWord, crashWord}
 use Rattle.lines.specs.FirstLine.{valueOf, numberAt, wordOf, firstLine}
 use Rattle.lines.specs.FirstLine.{then as thenFirst, after as afterFirst}
-use Rattle.lines.specs.StepLine.{then, after, pick, fresh, begun, bitOf, elseLine, endLine, gotoLine, testLine, kindLine, stepLine, on, maybeWord, criticalWord, ifWord}
+use Rattle.lines.specs.StepLine.{then, after, pick, fresh, begun, bitOf, elseLine, endLine}
+use Rattle.lines.specs.StepLine.{gotoLine, testLine, kindLine, stepLine, on, maybeWord, criticalWord, ifWord}
 use Rattle.fields.specs.declared.Cursor.{Cursor}
 use Rattle.fields.specs.declared.Moved.{Moved}
 use Rattle.fields.specs.declared.Field.{Field}
@@ -63,7 +64,8 @@ number-ranged : (s : List ℕ) (column : ℕ) → within 49 57 (num s column) �
 unfolding numberAt
 number-ranged s column h = go (digit (num s (column + 1)))
   where
-    go : (b : Bool) → within 1 maxBound (cond b (valueOf (num s column) * 10 + valueOf (num s (column + 1))) (valueOf (num s column))) ≡ true
+    go : (b : Bool) → within 1 maxBound (cond b (valueOf (num s column) * 10 + valueOf (num s (column + 1))) (valueOf (num s column)))
+        ≡ true
     go true =
         within-is 1 maxBound (valueOf (num s column) * 10 + valueOf (num s (column + 1)))
         (omega (arith, value-least (num s column) h))
@@ -129,7 +131,11 @@ module _ (s : List ℕ) where
   unfolding testLine
   test-shaped at p h k =
       after-shaped _ _ λ a. after-shaped _ _ λ b. after-shaped _ _ λ d.
-      goto-shaped d _ (h, ap (λ (t : Bool). cond t (leb (bitOf (num s (b .column))) 1) (eqb (bitOf (num s (b .column))) 0)) k ∙ bit-small (num s (b .column)))
+      goto-shaped d _ (
+        h,
+        ap (λ (t : Bool). cond t (leb (bitOf (num s (b .column))) 1) (eqb (bitOf (num s (b .column))) 0)) k
+            ∙ bit-small (num s (b .column)),
+      )
 
   kind-shaped : (b : Cursor) (name : ℕ) → Shaped (kindLine s b name)
   unfolding kindLine within every
@@ -140,16 +146,20 @@ module _ (s : List ℕ) where
       let critical : StepLine = gotoLine s (on b 8) (begun 2 name) in
       let maybe : StepLine = gotoLine s (on b 5) (begun 1 name) in
       let if-or : StepLine = pick (starts ifWord rest) tested assigned in
-      let if-shaped = pick-shaped (starts ifWord rest) tested assigned (test-shaped (on b 3) (begun 4 name) refl refl) (test-shaped b (begun 3 name) refl refl) in
-      let critical-shaped = pick-shaped (starts criticalWord rest) critical if-or (goto-shaped (on b 8) (begun 2 name) (refl, refl)) if-shaped in
-      pick-shaped (starts maybeWord rest) maybe (pick (starts criticalWord rest) critical if-or) (goto-shaped (on b 5) (begun 1 name) (refl, refl)) critical-shaped
+      let if-shaped = pick-shaped (starts ifWord rest) tested assigned (test-shaped (on b 3) (begun 4 name) refl refl)
+      (test-shaped b (begun 3 name) refl refl) in
+      let critical-shaped = pick-shaped (starts criticalWord rest) critical if-or
+      (goto-shaped (on b 8) (begun 2 name) (refl, refl)) if-shaped in
+      pick-shaped (starts maybeWord rest) maybe (pick (starts criticalWord rest) critical if-or)
+      (goto-shaped (on b 5) (begun 1 name) (refl, refl)) critical-shaped
 
   fresh-shaped : (f : Found) (l : StepLine) → Shaped l → Shaped (fresh f l)
   unfolding fresh
   fresh-shaped (At i) l h = tt
   fresh-shaped Nothing l h = h
 
-  pub step-shaped : (labels : List ℕ) (count : ℕ) (at : Cursor) (p : Step) → stepLine labels count s at ≡ Line p → Shape (p .kind) (p .value)
+  pub step-shaped : (labels : List ℕ) (count : ℕ) (at : Cursor) (p : Step) → stepLine labels count s at ≡ Line p
+      → Shape (p .kind) (p .value)
   unfolding stepLine
   step-shaped labels count at p e =
       subst (λ (l : StepLine). Shaped l) e

@@ -10,7 +10,8 @@ use Rattle.scan.specs.Bytes.{wordAt}
 use Rattle.scan.specs.Names.{lookup}
 use Rattle.scan.specs.declared.Found.{Found}
 use Rattle.scan.specs.declared.Found.the-variants.{At, Nothing}
-use Rattle.fields.specs.Fields.{nameField, spaceField, variableField, equalsField, bitField, gotoField, toField, elseField, otherField, stepEndField}
+use Rattle.fields.specs.Fields.{nameField, spaceField, variableField, equalsField, bitField}
+use Rattle.fields.specs.Fields.{gotoField, toField, elseField, otherField, stepEndField}
 use Rattle.fields.specs.declared.Cursor.{Cursor}
 use Rattle.fields.specs.declared.Moved.{Moved}
 use Rattle.fields.specs.declared.Field.{Field}
@@ -48,11 +49,29 @@ tested p v e b = record { kind = p .kind; name = p .name; variable = v; equals =
 
 -- with L from l to e
 abbrev pub going : Step → ℕ → ℕ → Step
-going p l e = record { kind = p .kind; name = p .name; variable = p .variable; equals = p .equals; value = p .value; to = l; end = e; other = 0 }
+going p l e = record {
+  kind = p .kind;
+  name = p .name;
+  variable = p .variable;
+  equals = p .equals;
+  value = p .value;
+  to = l;
+  end = e;
+  other = 0;
+}
 
 -- with M from o to the line's end
 abbrev pub orElse : Step → ℕ → Step
-orElse p o = record { kind = p .kind; name = p .name; variable = p .variable; equals = p .equals; value = p .value; to = p .to; end = p .end; other = o }
+orElse p o = record {
+  kind = p .kind;
+  name = p .name;
+  variable = p .variable;
+  equals = p .equals;
+  value = p .value;
+  to = p .to;
+  end = p .end;
+  other = o;
+}
 
 -- the value of v
 unfoldable pub bitOf : ℕ → ℕ

@@ -57,12 +57,19 @@ record Within (k : ℕ) (j : Job) : Type 0 where
 ready-fits : (j : Job) → Ready j → fit j ≡ true
 unfolding fit
 ready-fits j R =
-    pass _ (R .program, (le-leb (j .lemmas) maxLemmas (R .lemmas .few), (entered-fits (items j) (j .lengths) (j .items) (j .lemmas) (R .lemmas), tt)))
+    pass _ (
+      R .program,
+      (
+        le-leb (j .lemmas) maxLemmas (R .lemmas .few),
+        (entered-fits (items j) (j .lengths) (j .items) (j .lemmas) (R .lemmas), tt),
+      ),
+    )
 
 -- ---- at `lemmas`
 
 program-ready : (d : Draft) → Drafted (d .program) → ltb (firstOf (d .program) 1) (d .program .steps) ≡ true
-    → ltb (firstOf (d .program) 2) (d .program .steps) ≡ true → link d (d .program .steps) .verdict ≡ Accepted → bothCritical (d .program) ≡ false
+    → ltb (firstOf (d .program) 2) (d .program .steps) ≡ true → link d (d .program .steps) .verdict ≡ Accepted
+    → bothCritical (d .program) ≡ false
     → Ready (withoutLemmas d (link d (d .program .steps) .program))
 unfolding withoutLemmas
 program-ready d D a b v c =
@@ -72,7 +79,8 @@ program-ready d D a b v c =
     let linking : Linking P (P .steps) (Q .to) (Q .other) =
     subst (λ (x : Verdict). LinkKept (λ R. Linking P (P .steps) (R .to) (R .other)) x Q) v (link-linked d D (P .steps) (omega arith)) in
     record {
-      program = subst (λ (R : Program). programFits R ≡ true) (steady-is P Q (link-steady d (P .steps))) (linked-fits P (Q .to) (Q .other) D linking a b c);
+      program = subst (λ (R : Program). programFits R ≡ true) (steady-is P Q (link-steady d (P .steps)))
+          (linked-fits P (Q .to) (Q .other) D linking a b c);
       lemmas = none-entered (Q .steps + Q .variables);
     }
 
@@ -112,7 +120,12 @@ unfolding lemmaLine
 line-ready j l n R =
     whole-ready (wholeLine l) n _
     (pick-holds Ready (leb maxLemmas (j .lemmas)) _ _ (λ _. tt)
-    (λ e. lemma-ready j n 0 (words (l .bytes)) (record { program = R .program; names = opened (items j) (j .lengths) (j .items) (j .lemmas) (R .lemmas) (leb-false maxLemmas (j .lemmas) e) })))
+    (λ e. lemma-ready j n 0 (words (l .bytes))
+    (record {
+      program = R .program;
+      names = opened (items j) (j .lengths) (j .items) (j .lemmas) (R .lemmas)
+          (leb-false maxLemmas (j .lemmas) e);
+    })))
 
 lines-ready : (j : Job) (n : ℕ) (ls : List Row) → Ready j → Holds Ready (lemmaLines j n ls)
 unfolding lemmaLines
@@ -126,7 +139,8 @@ unfolding reading fromLemmas
 reading-ready text = go (programOf text .end) (programOf text .draft) (reached-drafted text)
   where
     go : (e : End) (d : Draft) → DraftKept (λ d n at. Drafted (d .program)) e d → Holds Ready (fromLemmas text e d)
-    go (Lemmas n at) d D = then-holds Ready Ready (atLemmas d n) _ (started-holds Ready d n (program-ready d D)) (λ j h. lines-ready j n (lines (drop at text)) h)
+    go (Lemmas n at) d D = then-holds Ready Ready (atLemmas d n) _ (started-holds Ready d n (program-ready d D))
+        (λ j h. lines-ready j n (lines (drop at text)) h)
     go (Ended k p) d D = tt
 
 pub accepted-fit : (text : List ℕ) → reading text .verdict ≡ Accepted → fit (reading text .job) ≡ true

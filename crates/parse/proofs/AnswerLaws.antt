@@ -38,7 +38,8 @@ module _ (I : Job → Type 0) where
   pick-holds true x y h k = h refl
   pick-holds false x y h k = k refl
 
-  pub then-holds : (J : Job → Type 0) (r : Reading) (rest : Job → Reading) → Holds J r → ((j : Job) → J j → Holds I (rest j)) → Holds I (then r rest)
+  pub then-holds : (J : Job → Type 0) (r : Reading) (rest : Job → Reading) → Holds J r → ((j : Job) → J j → Holds I (rest j))
+      → Holds I (then r rest)
   unfolding by
   then-holds J r rest h k = go (r .verdict) (r .job) h
     where

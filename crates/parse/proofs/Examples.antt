@@ -1,6 +1,7 @@
--- 01's job and the short examples of its refusal table, read by the definition. The long ones (2, 7, 41) run as tests.
+-- 01's job, the short examples of its refusal table and 02's words of line 1, read by the definition. The long ones (2, 7, 41) run as
+-- tests.
 use mathlib.Core.Path.{_≡_, refl}
-use mathlib.Core.List.{List, [], _∷_, map}
+use mathlib.Core.List.{List, [], _∷_, _++_, map}
 use Prim.Native.Nat.{ℕ}
 use Prim.Native.Char.{code}
 use Prim.Native.String.{String}
@@ -132,7 +133,6 @@ refusals =
     ∷ ("bound 1\n~ one bit\nA0 a=1 goto A0\nB0 maybe goto B0\nlemmas\na\n\n", refusal 42 7)
     ∷ ("bound 1\n~ one bit\nA0 a=1 goto A0\nB0 maybe goto B0\nlemmas\n~~a\n", refusal 43 6)
     ∷ ("bound 1\n~ one bit\nA0 a=1 goto A0\nB0 maybe goto B0\nlemmas\na b\n", refusal 43 6)
-    ∷ ("bound 1\n~ one bit\nA0 a=1 goto A0\nB0 maybe goto B0\nlemmas\na a a a a a a a a a a a a a a a a a a a a a a a a a a a a a a a a a a a a a a a a a a a a a a a a a a a a a a a a a a a a a a a a\n", refusal 44 6)
     ∷ ("bound 1 crash\nA0 critical goto A0\nB0 critical goto B0\nlemmas\n", refusal 55 4)
     ∷ ("bound 1\nA0 maybe goto A0\nlemmas\n", refusal 98 3)
     ∷ ("bound 1\nB0 maybe goto B0\nlemmas\n", refusal 99 3)
@@ -153,3 +153,13 @@ unfolding bytes verdict every all within each passing first firstOf bothCritical
     targetOf aim enterTo enterOther on linkStep link started atLemmas filled words bare namedIn named lemma whole lemmaLine lemmaLines
     fromLemmas reading
 as-told = refl
+
+-- a 65th name
+too-many : reading (bytes oneBit ++ (each 65 (λ _. bytes "a ") ++ bytes "\n")) .verdict ≡ refusal 44 6
+unfolding bytes verdict every all within each passing first firstOf bothCritical cut upTo allOf starts is alnum headed rows lines
+    entryIs lookup wordField fixedField bitField rangeField endField boundEndField wholeLine firstLine numberAt valueOf wordOf thenFirst
+    fresh bitOf elseLine endLine gotoLine testLine kindLine stepLine thenStep blank mentionAt processOf otherEnd enter addStep isLemmas
+    isComment stepped programLine pickLined wholeProgramLine follow program opened fromLine1 programOf wholeLine1 withoutLemmas by
+    targetOf aim enterTo enterOther on linkStep link started atLemmas filled words bare namedIn named lemma whole lemmaLine lemmaLines
+    fromLemmas reading
+too-many = refl

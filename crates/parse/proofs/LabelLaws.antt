@@ -22,7 +22,8 @@ use Rattle.scan.specs.declared.Found.{Found}
 use Rattle.scan.specs.declared.Found.the-variants.{At, Nothing}
 use Rattle.program.specs.declared.Draft.{Draft}
 use Rattle.parse.specs.Answers.{refusal, refuse, deny, accept, withoutLemmas, pick}
-use Rattle.parse.specs.Labels.{pickTarget, targetOf, numberOf, linked, withTo, withOther, enterTo, enterOther, on, thenLink, pickLinked, linkStep, link, started, atLemmas}
+use Rattle.parse.specs.Labels.{pickTarget, targetOf, numberOf, linked, withTo, withOther, enterTo}
+use Rattle.parse.specs.Labels.{enterOther, on, thenLink, pickLinked, linkStep, link, started, atLemmas}
 use Rattle.parse.specs.declared.Verdict.{Verdict}
 use Rattle.parse.specs.declared.Verdict.the-variants.{Accepted, Refused}
 use Rattle.parse.specs.declared.Target.{Target}
@@ -123,7 +124,8 @@ unfolding link on
 link-next d k P e = ap (link d) (add-one k) ∙ ap (λ (l : Linked). thenLink l (linkStep d k)) e
 
 -- a step that is refused ends the linking
-pub link-stays : (d : Draft) (k m : ℕ) (q : Refusal) (P : Program) → link d k ≡ linked (Refused q) P → k ≤ m → link d m ≡ linked (Refused q) P
+pub link-stays : (d : Draft) (k m : ℕ) (q : Refusal) (P : Program) → link d k ≡ linked (Refused q) P → k ≤ m
+    → link d m ≡ linked (Refused q) P
 unfolding link on
 link-stays d k zero q P e h = let z : k ≡ 0 = omega arith in ap (link d) (sym z) ∙ e
 link-stays d k (suc m) q P e h = go (ℕ-discrete k (suc m)) (λ l. link-stays d k m q P e l)
@@ -142,7 +144,8 @@ module _ (d : Draft) (n : ℕ) (l l′ : Linked) (e : l ≡ l′) where
       ∙ ap (λ (v : Verdict). started d n v (l .program)) (sym h)
       ∙ ap (λ (x : Linked). started d n (x .verdict) (x .program)) e
 
-  start-by : l .verdict ≡ Accepted → pick (bothCritical (d .program)) (refuse 55 n) (accept (withoutLemmas d (l .program))) ≡ started d n (l′ .verdict) (l′ .program)
+  start-by : l .verdict ≡ Accepted → pick (bothCritical (d .program)) (refuse 55 n) (accept (withoutLemmas d (l .program)))
+      ≡ started d n (l′ .verdict) (l′ .program)
   unfolding started
   start-by h =
       ap (λ (v : Verdict). started d n v (l .program)) (sym h) ∙ ap (λ (x : Linked). started d n (x .verdict) (x .program)) e
@@ -150,12 +153,14 @@ module _ (d : Draft) (n : ℕ) (l l′ : Linked) (e : l ≡ l′) where
   pub start-critical : l .verdict ≡ Accepted → bothCritical (d .program) ≡ true → refuse 55 n ≡ started d n (l′ .verdict) (l′ .program)
   start-critical h b = ap (λ (z : Bool). pick z (refuse 55 n) (accept (withoutLemmas d (l .program)))) (sym b) ∙ start-by h
 
-  pub start-on : l .verdict ≡ Accepted → bothCritical (d .program) ≡ false → accept (withoutLemmas d (l .program)) ≡ started d n (l′ .verdict) (l′ .program)
+  pub start-on : l .verdict ≡ Accepted → bothCritical (d .program) ≡ false
+      → accept (withoutLemmas d (l .program)) ≡ started d n (l′ .verdict) (l′ .program)
   start-on h b = ap (λ (z : Bool). pick z (refuse 55 n) (accept (withoutLemmas d (l .program)))) (sym b) ∙ start-by h
 
 -- ---- 99, 98, and the rest
 
-module _ (d : Draft) (n a b : ℕ) (p : a ≡ first (d .program .steps) λ c. eqb (num (d .program .process) c) 1) (q : b ≡ first (d .program .steps) λ c. eqb (num (d .program .process) c) 2) where
+module _ (d : Draft) (n a b : ℕ) (p : a ≡ first (d .program .steps) λ c. eqb (num (d .program .process) c) 1)
+    (q : b ≡ first (d .program .steps) λ c. eqb (num (d .program .process) c) 2) where
   pub critical-is : (leb start (d .program .word) && (eqb (num (d .program .kind) a) 2 && eqb (num (d .program .kind) b) 2))
       ≡ bothCritical (d .program)
   unfolding bothCritical firstOf
@@ -170,7 +175,8 @@ module _ (d : Draft) (n a b : ℕ) (p : a ≡ first (d .program .steps) λ c. eq
   unfolding atLemmas firstOf
   at-on h k = rw (← p, ← q, lt-ltb a (d .program .steps) h, lt-ltb b (d .program .steps) k)
 
-pub at-99 : (d : Draft) (n a : ℕ) → (a ≡ first (d .program .steps) λ c. eqb (num (d .program .process) c) 1) → d .program .steps ≤ a → refuse 99 n ≡ atLemmas d n
+pub at-99 : (d : Draft) (n a : ℕ) → (a ≡ first (d .program .steps) λ c. eqb (num (d .program .process) c) 1) → d .program .steps ≤ a
+    → refuse 99 n ≡ atLemmas d n
 unfolding atLemmas firstOf
 at-99 d n a p h = rw (← p, le-ltb a (d .program .steps) h)
 
@@ -192,7 +198,8 @@ module _ (P : Program) where
   steady-other Q k place (Step i) h = h
   steady-other Q k place (No n) h = h
 
-  steady-then : (l : Linked) (rest : Program → Linked) → Steady P (l .program) → ((Q : Program) → Steady P Q → Steady P (rest Q .program)) → Steady P (thenLink l rest .program)
+  steady-then : (l : Linked) (rest : Program → Linked) → Steady P (l .program) → ((Q : Program) → Steady P Q → Steady P (rest Q .program))
+      → Steady P (thenLink l rest .program)
   unfolding on
   steady-then l rest h k = go (l .verdict)
     where
@@ -221,7 +228,8 @@ pub started-holds : (I : Job → Type 0) (d : Draft) (n : ℕ)
 unfolding atLemmas started
 started-holds I d n h =
     pick-holds I (ltb (firstOf (d .program) 1) (d .program .steps)) _ _
-    (λ a. pick-holds I (ltb (firstOf (d .program) 2) (d .program .steps)) _ _ (λ b. go a b (link d (d .program .steps) .verdict) refl) (λ _. tt))
+    (λ a. pick-holds I (ltb (firstOf (d .program) 2) (d .program .steps)) _ _ (λ b. go a b (link d (d .program .steps) .verdict) refl)
+    (λ _. tt))
     (λ _. tt)
   where
     go : ltb (firstOf (d .program) 1) (d .program .steps) ≡ true → ltb (firstOf (d .program) 2) (d .program .steps) ≡ true

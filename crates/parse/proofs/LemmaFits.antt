@@ -41,13 +41,18 @@ none-entered w = record {
   items-size = length-replicate {0} {A = ℤ} (maxLemmas * maxNames) (pos 0);
   used = λ k l. absurd (omega arith);
   unused = λ k l. same-at {0} {A = ℕ} maxLemmas k 0;
-  places = λ k i l. rw (same-at {0} {A = ℕ} maxLemmas k 0, same-at {0} {A = ℤ} (maxLemmas * maxNames) (k * maxNames + i) (pos 0), le-ltb i 0 (omega arith)) refl;
+  places = λ k i l. rw (
+    same-at {0} {A = ℕ} maxLemmas k 0,
+    same-at {0} {A = ℤ} (maxLemmas * maxNames) (k * maxNames + i) (pos 0),
+    le-ltb i 0 (omega arith),
+  ) refl;
 }
 
 module _ (w : ℕ) (lengths : List ℕ) (items : List ℤ) (count : ℕ) (E : Entered w lengths items count) where
   pub entered-fits : lemmasFit lengths items count w ≡ true
   unfolding lemmasFit lemmaFits lengthFits placesFit
-  entered-fits = all-of (lemmaFits lengths items count w) maxLemmas λ k l. pass _ (sized k (decLt k count), (all-of _ maxNames (λ i h. E .places k i h), tt))
+  entered-fits = all-of (lemmaFits lengths items count w) maxLemmas λ k l.
+      pass _ (sized k (decLt k count), (all-of _ maxNames (λ i h. E .places k i h), tt))
     where
       sized : (k : ℕ) → Dec (k < count) → cond (ltb k count) (within 1 maxNames (num lengths k)) (eqb (num lengths k) 0) ≡ true
       sized k (yes h) = rw (lt-ltb k count h) (E .used k h)
@@ -67,7 +72,8 @@ pub record Open (w : ℕ) (lengths : List ℕ) (items : List ℤ) (count n : ℕ
   pub names : (i : ℕ) → i < n → itemFits w (placeOf items count i) ≡ true
   pub left : (i : ℕ) → n ≤ i → i < maxNames → isZero (placeOf items count i) ≡ true
 
-pub opened : (w : ℕ) (lengths : List ℕ) (items : List ℤ) (count : ℕ) → Entered w lengths items count → count < maxLemmas → Open w lengths items count 0
+pub opened : (w : ℕ) (lengths : List ℕ) (items : List ℤ) (count : ℕ) → Entered w lengths items count → count < maxLemmas
+    → Open w lengths items count 0
 unfolding placeFits
 opened w lengths items count E l = record {
   room = l;
@@ -133,15 +139,19 @@ module _ (w : ℕ) (lengths : List ℕ) (items : List ℤ) (count n : ℕ) (O : 
         places = λ k i l. place p k i l (ℕ-discrete k count);
       }
     where
-      size : Put lengths (set lengths count n) count n → (k : ℕ) → k < count + 1 → Dec (k ≡ count) → within 1 maxNames (num (set lengths count n) k) ≡ true
-      size p k l (yes e) = ap (λ (x : ℕ). within 1 maxNames (num (set lengths count n) x)) e ∙ ap (within 1 maxNames) (p .1) ∙ within-is 1 maxNames n (omega arith) (O .few)
+      size : Put lengths (set lengths count n) count n → (k : ℕ) → k < count + 1 → Dec (k ≡ count)
+          → within 1 maxNames (num (set lengths count n) k) ≡ true
+      size p k l (yes e) = ap (λ (x : ℕ). within 1 maxNames (num (set lengths count n) x)) e ∙ ap (within 1 maxNames) (p .1)
+          ∙ within-is 1 maxNames n (omega arith) (O .few)
       size p k l (no e) = ap (within 1 maxNames) (p .2 k e) ∙ O .used k (omega arith)
 
-      here : (i : ℕ) → i < maxNames → Dec (i < n) → cond (ltb i n) (itemFits w (placeOf items count i)) (isZero (placeOf items count i)) ≡ true
+      here : (i : ℕ) → i < maxNames → Dec (i < n) → cond (ltb i n) (itemFits w (placeOf items count i)) (isZero (placeOf items count i))
+          ≡ true
       here i l (yes b) = rw (lt-ltb i n b) (O .names i b)
       here i l (no b) = rw (le-ltb i n (omega arith)) (O .left i (omega arith) l)
 
-      place : Put lengths (set lengths count n) count n → (k i : ℕ) → i < maxNames → Dec (k ≡ count) → placeFits w (num (set lengths count n) k) i (placeOf items k i) ≡ true
+      place : Put lengths (set lengths count n) count n → (k i : ℕ) → i < maxNames → Dec (k ≡ count)
+          → placeFits w (num (set lengths count n) k) i (placeOf items k i) ≡ true
       place p k i l (yes e) =
           ap (λ (x : ℕ). placeFits w (num (set lengths count n) x) i (placeOf items x i)) e
           ∙ ap (λ (x : ℕ). placeFits w x i (placeOf items count i)) (p .1)

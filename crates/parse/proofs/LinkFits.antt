@@ -12,7 +12,8 @@ use lib.Seq.{slice}
 use Rattle.lists.specs.Rows.{num}
 use Rattle.lists.proofs.TestLaws.{pass, within-is, all-of}
 use Rattle.job.specs.Limits.{maxSteps}
-use Rattle.job.specs.Fitness.{larger, hasOther, isStep, otherFits, variableFits, valueFits, usedStep, unusedStep, mentioned, stepFits, stepsFit, bothStart, bothCritical, programFits}
+use Rattle.job.specs.Fitness.{larger, hasOther, isStep, otherFits, variableFits, valueFits, usedStep}
+use Rattle.job.specs.Fitness.{unusedStep, mentioned, stepFits, stepsFit, bothStart, bothCritical, programFits}
 use Rattle.job.specs.Table.{firstOf}
 use Rattle.job.specs.declared.Program.{Program}
 use Rattle.program.specs.declared.Draft.{Draft}
@@ -35,7 +36,8 @@ Kept I (Refused r) Q = Unit {0}
 abbrev Holds : (Program → Type 0) → Linked → Type 0
 Holds I l = Kept I (l .verdict) (l .program)
 
-then-holds : (I J : Program → Type 0) (l : Linked) (rest : Program → Linked) → Holds J l → ((Q : Program) → J Q → Holds I (rest Q)) → Holds I (thenLink l rest)
+then-holds : (I J : Program → Type 0) (l : Linked) (rest : Program → Linked) → Holds J l → ((Q : Program) → J Q → Holds I (rest Q))
+    → Holds I (thenLink l rest)
 unfolding on
 then-holds I J l rest h k = go (l .verdict) (l .program) h
   where
@@ -43,7 +45,8 @@ then-holds I J l rest h k = go (l .verdict) (l .program) h
     go Accepted Q g = k Q g
     go (Refused r) Q g = tt
 
-pick-holds : (I : Program → Type 0) (b : Bool) (x y : Linked) → (b ≡ true → Holds I x) → (b ≡ false → Holds I y) → Holds I (pickLinked b x y)
+pick-holds : (I : Program → Type 0) (b : Bool) (x y : Linked) → (b ≡ true → Holds I x) → (b ≡ false → Holds I y)
+    → Holds I (pickLinked b x y)
 pick-holds I true x y h k = h refl
 pick-holds I false x y h k = k refl
 
@@ -117,7 +120,8 @@ module _ (d : Draft) (D : Drafted (d .program)) where
               (h .here, rw (f, p .1) (aim-step (d .other) k i e))
           step p c b (no q) = (h .done c (omega arith) .0, rw (p .2 c q) (h .done c (omega arith) .1))
 
-  none-linked : (Q : Program) (k : ℕ) → hasOther (num (P .kind) k) ≡ false → Half P k (Q .to) (Q .other) → Linking P (suc k) (Q .to) (Q .other)
+  none-linked : (Q : Program) (k : ℕ) → hasOther (num (P .kind) k) ≡ false → Half P k (Q .to) (Q .other)
+      → Linking P (suc k) (Q .to) (Q .other)
   none-linked Q k f h = record {
     to-size = h .to-size;
     other-size = h .other-size;
@@ -141,9 +145,11 @@ module _ (d : Draft) (D : Drafted (d .program)) where
   }
   link-linked (suc k) l =
       let few = D .few in
-      then-holds (λ Q. Linking P (suc k) (Q .to) (Q .other)) (λ Q. Linking P k (Q .to) (Q .other)) (link d k) _ (link-linked k (omega arith)) λ Q h.
+      then-holds (λ Q. Linking P (suc k) (Q .to) (Q .other)) (λ Q. Linking P k (Q .to) (Q .other)) (link d k) _
+      (link-linked k (omega arith)) λ Q h.
       then-holds (λ Q. Linking P (suc k) (Q .to) (Q .other)) (λ R. Half P k (R .to) (R .other)) _ _ (to-linked Q k _ (omega arith) h) λ R g.
-      pick-holds (λ Q. Linking P (suc k) (Q .to) (Q .other)) (hasOther (num (P .kind) k)) _ _ (λ f. other-linked R k _ (omega arith) f g) (λ f. none-linked R k f g)
+      pick-holds (λ Q. Linking P (suc k) (Q .to) (Q .other)) (hasOther (num (P .kind) k)) _ _ (λ f. other-linked R k _ (omega arith) f g)
+      (λ f. none-linked R k f g)
 
 -- ---- the program
 
@@ -195,15 +201,22 @@ module _ (P : Program) (t o : List ℕ) (D : Drafted P) (L : Linking P (P .steps
           let u = D .unused c (omega arith) in
           let k = L .left c (omega arith) in
           rw (le-ltb c (P .steps) (omega arith))
-          (pass _ (eq-eqb _ 0 (u .0), (eq-eqb _ 0 (u .1), (eq-eqb _ 0 (k .0), (eq-eqb _ 0 (k .1), (eq-eqb _ 0 (u .2), (eq-eqb _ 0 (u .3), tt)))))))
+          (pass _ (
+            eq-eqb _ 0 (u .0),
+            (eq-eqb _ 0 (u .1), (eq-eqb _ 0 (k .0), (eq-eqb _ 0 (k .1), (eq-eqb _ 0 (u .2), (eq-eqb _ 0 (u .3), tt))))),
+          ))
 
   steps-fit : stepsFit R ≡ true
   unfolding stepsFit
   steps-fit =
       let few = D .few in
-      pass _ (all-of (stepFits R) maxSteps step-fits, (eq-eqb (P .variables) (mentioned R maxSteps) (D .counted ∙ sym (mentioned-past P D maxSteps few) ∙ sym (seen maxSteps)), tt))
+      pass _ (
+        all-of (stepFits R) maxSteps step-fits,
+        (eq-eqb (P .variables) (mentioned R maxSteps) (D .counted ∙ sym (mentioned-past P D maxSteps few) ∙ sym (seen maxSteps)), tt),
+      )
 
-  pub linked-fits : ltb (firstOf P 1) (P .steps) ≡ true → ltb (firstOf P 2) (P .steps) ≡ true → bothCritical P ≡ false → programFits R ≡ true
+  pub linked-fits : ltb (firstOf P 1) (P .steps) ≡ true → ltb (firstOf P 2) (P .steps) ≡ true → bothCritical P ≡ false
+      → programFits R ≡ true
   unfolding programFits bothStart bothCritical firstOf
   linked-fits a b c =
       pass _ (le-leb (P .steps) maxSteps (D .few), (D .bounded, (steps-fit, (pass _ (a, (b, tt)), (ap not c, (D .worded, tt))))))

@@ -31,7 +31,8 @@ module _ (text : List ℕ) (o : Outcome) (e : o ≡ programOf text) where
   no-program k p h =
       ap stop h ∙ ap (λ (x : End). fromLemmas text x (o .draft)) (sym h) ∙ ap (λ (x : Outcome). fromLemmas text (x .end) (x .draft)) e
 
-  pub at-lemmas : (n at : ℕ) → o .end ≡ Lemmas n at → then (atLemmas (o .draft) n) (λ j. lemmaLines j n (lines (drop at text))) ≡ reading text
+  pub at-lemmas : (n at : ℕ) → o .end ≡ Lemmas n at → then (atLemmas (o .draft) n) (λ j. lemmaLines j n (lines (drop at text)))
+      ≡ reading text
   unfolding reading fromLemmas
   at-lemmas n at h =
       ap (λ (x : End). fromLemmas text x (o .draft)) (sym h) ∙ ap (λ (x : Outcome). fromLemmas text (x .end) (x .draft)) e
@@ -45,7 +46,8 @@ module _ (text : List ℕ) (o : Outcome) (e : o ≡ programOf text) where
       (reached-at (λ d n at. length text ≤ maxText) o n at size h, w .1, w .0)
 
 -- the counts are still in the limits
-counts-held : (d : Draft) (n : ℕ) → Within d → Holds (λ (j : Job). (j .program .steps ≤ maxSteps) × (j .program .variables ≤ maxSteps)) (atLemmas d n)
+counts-held : (d : Draft) (n : ℕ) → Within d
+    → Holds (λ (j : Job). (j .program .steps ≤ maxSteps) × (j .program .variables ≤ maxSteps)) (atLemmas d n)
 unfolding withoutLemmas
 counts-held d n h =
     started-holds (λ (j : Job). (j .program .steps ≤ maxSteps) × (j .program .variables ≤ maxSteps)) d n λ a b v c.

@@ -114,7 +114,9 @@ fn aim<'a>(
     k: usize,
 ) -> Target
     requires { ⌜ (m ≤ maxSteps) × (k < maxSteps) ⌝ }
-    ensures { λ r. ⌜ r ≡ targetOf (now (process .entry)) k (lookup (now (labels .entry)) m (slice (k * 4) (k * 4 + 4) (now (names .entry)))) ⌝ }
+    ensures { λ r. ⌜
+        r ≡ targetOf (now (process .entry)) k (lookup (now (labels .entry)) m (slice (k * 4) (k * 4 + 4) (now (names .entry))))
+        ⌝ }
 {
     let f = scan::find(labels, m, names, k * 4, k * 4 + 4);
     let Found::At(i) = f else {
@@ -366,7 +368,10 @@ fn lemma_line(j: Job, s: &[u8], ended: bool, n: usize) -> Reading
 
 // The lemma lines, which begin at from, behind before lines.
 fn lemma_lines(text: &[u8], from: usize, before: usize, start: Job) -> Reading
-    requires { ⌜ (length (now text) ≤ maxText) × (before ≤ from) × (start .program .steps ≤ maxSteps) × (start .program .variables ≤ maxSteps) ⌝ }
+    requires { ⌜
+        (length (now text) ≤ maxText) × (before ≤ from)
+        × (start .program .steps ≤ maxSteps) × (start .program .variables ≤ maxSteps)
+        ⌝ }
     ensures { λ r. ⌜ r ≡ lemmaLines start before (lines (drop from (now (text .entry)))) ⌝ }
 {
     let mut at = from;

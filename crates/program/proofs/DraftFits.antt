@@ -118,9 +118,11 @@ module _ (P Q : Program) (p k x v : ℕ) (D : Drafted P) (M : More P Q p k x v) 
       go : Dec (c ≡ P .steps) → StepUsed Q c
       go (yes e) =
           subst (λ (i : ℕ). StepUsed Q i) (sym e)
-          (used-same (M .process .1) (M .kind .1) (M .variable .1) (M .value .1) (seen-before (P .steps) (omega arith) ∙ sym (D .counted)) u)
+          (used-same (M .process .1) (M .kind .1) (M .variable .1) (M .value .1)
+          (seen-before (P .steps) (omega arith) ∙ sym (D .counted)) u)
       go (no e) =
-          used-same (M .process .2 c e) (M .kind .2 c e) (M .variable .2 c e) (M .value .2 c e) (seen-before c (omega (arith, M .steps))) (D .used c (omega (arith, M .steps)))
+          used-same (M .process .2 c e) (M .kind .2 c e) (M .variable .2 c e) (M .value .2 c e) (seen-before c (omega (arith, M .steps)))
+          (D .used c (omega (arith, M .steps)))
 
   more-unused : (c : ℕ) → Q .steps ≤ c → StepUnused Q c
   more-unused c l =
@@ -169,7 +171,8 @@ process-ranged b = go (eqb b 65)
     go true = within-is 1 2 1 (omega arith) (omega arith)
     go false = within-is 1 2 2 (omega arith) (omega arith)
 
-module _ (d : Draft) (s : List ℕ) (p : Step) (n : ℕ) (D : Drafted (d .program)) (l : d .program .steps < maxSteps) (h : Shape (p .kind) (p .value)) where
+module _ (d : Draft) (s : List ℕ) (p : Step) (n : ℕ) (D : Drafted (d .program)) (l : d .program .steps < maxSteps)
+    (h : Shape (p .kind) (p .value)) where
   -- with variable number x
   usedBy : (x : ℕ) → cond (hasVariable (p .kind)) (within 1 (d .program .variables + 1) x) (eqb x 0) ≡ true
       → Used (processOf (num s 0)) (p .kind) x (p .value) (d .program .variables)
@@ -178,7 +181,8 @@ module _ (d : Draft) (s : List ℕ) (p : Step) (n : ℕ) (D : Drafted (d .progra
   abbrev Holds : Draft → Type 0
   Holds e = Drafted (enter e s p n .program)
 
-  mention-drafted : hasVariable (p .kind) ≡ true → (w : List ℕ) (f : Found) → lookup (d .names) (d .program .variables) w ≡ f → Holds (mentionAt d w f)
+  mention-drafted : hasVariable (p .kind) ≡ true → (w : List ℕ) (f : Found) → lookup (d .names) (d .program .variables) w ≡ f
+      → Holds (mentionAt d w f)
   unfolding enter mentionAt
   mention-drafted e w (At i) g =
       let b = lookup-below (d .names) (d .program .variables) w i g in
@@ -197,7 +201,8 @@ module _ (d : Draft) (s : List ℕ) (p : Step) (n : ℕ) (D : Drafted (d .progra
         to = refl;
         other = refl;
       })
-      (usedBy (i + 1) (ap (λ (t : Bool). cond t (within 1 (P .variables + 1) (i + 1)) (eqb (i + 1) 0)) e ∙ within-is 1 (P .variables + 1) (i + 1) (omega arith) (omega arith)))
+      (usedBy (i + 1) (ap (λ (t : Bool). cond t (within 1 (P .variables + 1) (i + 1)) (eqb (i + 1) 0)) e
+      ∙ within-is 1 (P .variables + 1) (i + 1) (omega arith) (omega arith)))
       l
   mention-drafted e w Nothing g =
       let P = d .program in
@@ -216,7 +221,8 @@ module _ (d : Draft) (s : List ℕ) (p : Step) (n : ℕ) (D : Drafted (d .progra
         to = refl;
         other = refl;
       })
-      (usedBy x (ap (λ (t : Bool). cond t (within 1 (P .variables + 1) x) (eqb x 0)) e ∙ within-is 1 (P .variables + 1) x (omega arith) (omega arith)))
+      (usedBy x (ap (λ (t : Bool). cond t (within 1 (P .variables + 1) x) (eqb x 0)) e
+      ∙ within-is 1 (P .variables + 1) x (omega arith) (omega arith)))
       l
 
   plain-drafted : hasVariable (p .kind) ≡ false → Holds d
@@ -264,7 +270,8 @@ unfolding programLine FitLine
 line-drafted d l n D =
     whole-all FitLine (wholeLine l) d _ (λ _. D)
     (pick-all FitLine _ _ _ D (λ _. pick-all FitLine _ _ _ D
-    (λ _. pick-all FitLine _ _ _ D (λ e. stepped-drafted d (l .bytes) n _ (step-shaped (l .bytes) (d .labels) (d .program .steps) _) D (leb-false _ _ e)))))
+    (λ _. pick-all FitLine _ _ _ D
+    (λ e. stepped-drafted d (l .bytes) n _ (step-shaped (l .bytes) (d .labels) (d .program .steps) _) D (leb-false _ _ e)))))
 
 -- the draft of a text that reaches `lemmas`
 pub reached-drafted : (text : List ℕ) → Reached (λ d n at. Drafted (d .program)) (programOf text)

@@ -35,11 +35,13 @@ use Rattle.program.specs.declared.Outcome.{Outcome}
 
 -- ---- program lines
 
-pub program-line : (d : Draft) (at n : ℕ) (l : Row) (ls : List Row) (r : Lined) (e : ℕ) → r ≡ lineOf d l (n + 1) → at + length (l .bytes) + 1 ≡ e
+pub program-line : (d : Draft) (at n : ℕ) (l : Row) (ls : List Row) (r : Lined) (e : ℕ) → r ≡ lineOf d l (n + 1)
+    → at + length (l .bytes) + 1 ≡ e
     → program d at n (l ∷ ls) ≡ follow (r .next) (r .draft) (n + 1) e λ x. program x e (n + 1) ls
 unfolding program
 program-line d at n l ls r e h k =
-    ap (λ (q : Lined). follow (q .next) (q .draft) (n + 1) (at + length (l .bytes) + 1) λ x. program x (at + length (l .bytes) + 1) (n + 1) ls) (sym h)
+    ap (λ (q : Lined). follow (q .next) (q .draft) (n + 1) (at + length (l .bytes) + 1) λ x.
+    program x (at + length (l .bytes) + 1) (n + 1) ls) (sym h)
     ∙ ap (λ (p : ℕ). follow (r .next) (r .draft) (n + 1) p λ x. program x p (n + 1) ls) k
 
 pub program-none : (d : Draft) (at n : ℕ) → program d at n [] ≡ refuse 6 (n + 1)
@@ -59,7 +61,8 @@ module _ (text : List ℕ) (at e : ℕ) (l : at < length text) (k : e ≡ at + l
   line-ends = omega (arith, line-within, length-take (e - at) (drop at text), length-drop at text)
 
   pub program-turn : (d : Draft) (n : ℕ) (r : Lined) → r ≡ lineOf d (row (take (e - at) (drop at text)) (ltb e (length text))) (n + 1)
-      → program d at n (lines (drop at text)) ≡ follow (r .next) (r .draft) (n + 1) (e + 1) λ x. program x (e + 1) (n + 1) (lines (drop (e + 1) text))
+      → program d at n (lines (drop at text)) ≡ follow (r .next) (r .draft) (n + 1) (e + 1) λ x.
+      program x (e + 1) (n + 1) (lines (drop (e + 1) text))
   program-turn d n r h = ap (program d at n) (lines-at text at e l k) ∙ program-line d at n _ _ r (e + 1) h line-ends
 
 -- a line after which no program line is read

@@ -43,7 +43,8 @@ module _ (I : Draft → ℕ → ℕ → Type 0)
   program-reached : (d : Draft) (at n : ℕ) (ls : List Row) → I d n at → Reached I (program d at n ls)
   unfolding program follow
   program-reached d at n [] h = tt
-  program-reached d at n (l ∷ ls) h = go (lineOf d l (n + 1) .next) (lineOf d l (n + 1) .draft) (next d l at n h) (λ e k. program-reached e _ _ ls k)
+  program-reached d at n (l ∷ ls) h = go (lineOf d l (n + 1) .next) (lineOf d l (n + 1) .draft) (next d l at n h)
+      (λ e k. program-reached e _ _ ls k)
     where
       go : (x : Next) (e : Draft) → I e (n + 1) (at + length (l .bytes) + 1)
           → ((e : Draft) → I e (n + 1) (at + length (l .bytes) + 1) → Reached I (program e (at + length (l .bytes) + 1) (n + 1) ls))
@@ -89,7 +90,8 @@ reached-size text = go (within 1 maxText (length text)) refl
         by (Lemmas n at) = h
         by (Refused k p) = tt
 
-    go : (b : Bool) → within 1 maxText (length text) ≡ b → Reached (λ d n at. length text ≤ maxText) (pick b (fromLine1 (lines text)) (refuse 1 0))
+    go : (b : Bool) → within 1 maxText (length text) ≡ b
+        → Reached (λ d n at. length text ≤ maxText) (pick b (fromLine1 (lines text)) (refuse 1 0))
     go true e = all (fromLine1 (lines text)) (is-within 1 maxText (length text) e .1)
     go false e = tt
 

@@ -261,7 +261,10 @@ fn stopped(next: Next, d: Draft, n: usize, at: usize) -> Outcome
 
 // The program lines after line 1, which begin at from.
 fn program_lines(text: &[u8], from: usize, start: Draft) -> Outcome
-    requires { ⌜ (1 ≤ from) × (length (now text) ≤ maxText) × (from ≤ maxText + 1) × (start .program .variables ≤ start .program .steps) × (start .program .steps ≤ maxSteps) ⌝ }
+    requires { ⌜
+        (1 ≤ from) × (length (now text) ≤ maxText) × (from ≤ maxText + 1)
+        × (start .program .variables ≤ start .program .steps) × (start .program .steps ≤ maxSteps)
+        ⌝ }
     ensures { λ r. ⌜ r ≡ programFrom start from 1 (lines (drop from (now (text .entry)))) ⌝ }
 {
     let mut at = from;

@@ -34,7 +34,8 @@ returns c =
     sym
     (loop′ .inv
     ∙ all-step isAlnum (a .s .now) (a .to) i (omega arith) (omega arith)
-    ∙ ap (λ (b : Bool). b && allOf isAlnum (slice (i + 1) (a .to) (a .s .now))) (sym (c .before .alnum .ensures) ∙ not-true _ (c .if1 .taken)))
+    ∙ ap (λ (b : Bool). b && allOf isAlnum (slice (i + 1) (a .to) (a .s .now)))
+    (sym (c .before .alnum .ensures) ∙ not-true _ (c .if1 .taken)))
 
 add-i : tie.Need-add-i Inv-loop μ-loop
 add-i c = search needs
@@ -49,10 +50,12 @@ loop-again c =
     let i = loop′ .i in
     loop′ .inv
     ∙ all-step isAlnum (a .s .now) (a .to) i (omega arith) (omega arith)
-    ∙ ap (λ (b : Bool). b && allOf isAlnum (slice (i + 1) (a .to) (a .s .now))) (sym (c .before .alnum .ensures) ∙ not-false _ (c .if1 .left))
+    ∙ ap (λ (b : Bool). b && allOf isAlnum (slice (i + 1) (a .to) (a .s .now)))
+    (sym (c .before .alnum .ensures) ∙ not-false _ (c .if1 .left))
 
 returns-2 : tie.Need-returns-2 Inv-loop μ-loop
-returns-2 c = let a = c .before .before .before .args in sym (c .before .loop .inv ∙ all-none isAlnum (a .s .now) (a .to) (c .before .loop .i) (omega arith))
+returns-2 c = let a = c .before .before .before .args in
+    sym (c .before .loop .inv ∙ all-none isAlnum (a .s .now) (a .to) (c .before .loop .i) (omega arith))
 
 pub all-alnum-spec : {M : Type 1} → statement M
 all-alnum-spec =

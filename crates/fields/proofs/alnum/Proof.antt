@@ -7,7 +7,8 @@ use Rattle.fields.proofs.alnum.Tie as tie
 
 returns : tie.Need-returns
 unfolding isAlnum
-returns c = let b = c .before .args .b in rw (within-under 48 57 b (omega arith), within-under 65 90 b (omega arith), within-under 97 122 b (omega arith))
+returns c = let b = c .before .args .b in
+    rw (within-under 48 57 b (omega arith), within-under 65 90 b (omega arith), within-under 97 122 b (omega arith))
 
 returns-2 : tie.Need-returns-2
 unfolding isAlnum
@@ -21,7 +22,8 @@ returns-3 c =
 
 returns-4 : tie.Need-returns-4
 unfolding isAlnum
-returns-4 c = let b = c .before .before .before .before .args .b in rw (within-over 48 57 b (omega arith), within-is 65 90 b (omega arith) (omega arith))
+returns-4 c = let b = c .before .before .before .before .args .b in
+    rw (within-over 48 57 b (omega arith), within-is 65 90 b (omega arith) (omega arith))
 
 returns-5 : tie.Need-returns-5
 unfolding isAlnum

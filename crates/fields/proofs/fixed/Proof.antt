@@ -15,7 +15,8 @@ add-t10 : tie.Need-add-t10
 add-t10 c =
     let a = c .before .before .before .before .args in
     let good′ = c .before .before .before .before .good in
-    ⊎-elim (λ e. omega (arith, e, good′)) (λ e. omega (arith, e)) (fixed-fits (a .w .now) (a .s .now) (a .at .column) (sym (c .before .follows .ensures) ∙ c .if1 .taken))
+    ⊎-elim (λ e. omega (arith, e, good′)) (λ e. omega (arith, e))
+    (fixed-fits (a .w .now) (a .s .now) (a .at .column) (sym (c .before .follows .ensures) ∙ c .if1 .taken))
 
 returns : tie.Need-returns
 returns c =

@@ -44,7 +44,8 @@ returns-4 c =
     c .all-alnum .ensures
     ∙ sym
     (headed-cons (a .lo) (a .hi) (a .s .now) (a .from) (a .to) (omega arith) (omega arith)
-    ∙ ap (λ (b : Bool). b && allOf isAlnum (slice (a .from + 1) (a .to) (a .s .now))) (within-is (a .lo) (a .hi) _ (if2′ .left) (c .before .if3 .left)))
+    ∙ ap (λ (b : Bool). b && allOf isAlnum (slice (a .from + 1) (a .to) (a .s .now)))
+    (within-is (a .lo) (a .hi) _ (if2′ .left) (c .before .if3 .left)))
 
 pub is-headed-spec : {M : Type 1} → statement M
 is-headed-spec =

@@ -19,11 +19,21 @@ returns-2 c = rw (le-ltb _ _ (c .before .before .if1 .left), sym (c .before .pla
 
 returns-3 : tie.Need-returns-3
 unfolding wholeLine
-returns-3 c = rw (le-ltb _ _ (c .before .before .before .if1 .left), sym (c .before .before .plain .ensures) ∙ not-false _ (c .before .if2 .left), c .if3 .taken)
+returns-3 c = rw (
+  le-ltb _ _ (c .before .before .before .if1 .left),
+  sym (c .before .before .plain .ensures)
+      ∙ not-false _ (c .before .if2 .left),
+  c .if3 .taken,
+)
 
 returns-4 : tie.Need-returns-4
 unfolding wholeLine
-returns-4 c = rw (le-ltb _ _ (c .before .before .before .if1 .left), sym (c .before .before .plain .ensures) ∙ not-false _ (c .before .if2 .left), c .if3 .left)
+returns-4 c = rw (
+  le-ltb _ _ (c .before .before .before .if1 .left),
+  sym (c .before .before .plain .ensures)
+      ∙ not-false _ (c .before .if2 .left),
+  c .if3 .left,
+)
 
 pub line-spec : {M : Type 1} → statement M
 line-spec = tie.close (tie.spec returns plain-requires returns-2 returns-3 returns-4)

@@ -17,7 +17,8 @@ returns : tie.Need-returns
 returns c =
     let a = c .before .before .before .args in
     let end-of′ = c .before .end-of in
-    word-long (a .stop) (a .most) (a .lo) (a .hi) (a .long) (a .ill) (a .s .now) (a .at) (end-of′ .result) (end-of′ .ensures) (c .if1 .taken)
+    word-long (a .stop) (a .most) (a .lo) (a .hi) (a .long) (a .ill) (a .s .now) (a .at) (end-of′ .result) (end-of′ .ensures)
+    (c .if1 .taken)
 
 is-headed-requires : tie.Need-is-headed-requires
 is-headed-requires c κs =
@@ -30,14 +31,16 @@ returns-2 c =
     let o = c .before .before in
     let a = o .before .before .before .args in
     let form = sym (c .before .is-headed .ensures) ∙ not-true _ (c .if2 .taken) in
-    word-ill (a .stop) (a .most) (a .lo) (a .hi) (a .long) (a .ill) (a .s .now) (a .at) (o .before .end-of .result) (o .before .end-of .ensures) (o .if1 .left) form
+    word-ill (a .stop) (a .most) (a .lo) (a .hi) (a .long) (a .ill) (a .s .now) (a .at) (o .before .end-of .result)
+    (o .before .end-of .ensures) (o .if1 .left) form
 
 returns-3 : tie.Need-returns-3
 returns-3 c =
     let o = c .before .before in
     let a = o .before .before .before .args in
     let form = sym (c .before .is-headed .ensures) ∙ not-false _ (c .if2 .left) in
-    word-read (a .stop) (a .most) (a .lo) (a .hi) (a .long) (a .ill) (a .s .now) (a .at) (o .before .end-of .result) (o .before .end-of .ensures) (o .if1 .left) form
+    word-read (a .stop) (a .most) (a .lo) (a .hi) (a .long) (a .ill) (a .s .now) (a .at) (o .before .end-of .result)
+    (o .before .end-of .ensures) (o .if1 .left) form
 
 pub word-spec : {M : Type 1} → statement M
 word-spec =

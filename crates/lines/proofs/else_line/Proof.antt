@@ -44,7 +44,8 @@ returns-2 c =
     let enum-told′ = c .before .before .before .before .before .enum-told in
     let other-label-at′ = c .before .before .before .other-label-at in
     let enum-told4′ = c .before .enum-told4 in
-    after-no (other-label-at′ .result) _ _ (enum-told4′ .given .0 .0) _ (other-label-at′ .ensures) (enum-told4′ .given .1) (c .number2 .ensures)
+    after-no (other-label-at′ .result) _ _ (enum-told4′ .given .0 .0) _ (other-label-at′ .ensures) (enum-told4′ .given .1)
+    (c .number2 .ensures)
     ∙ after-read (else-word-at′ .result) _ _ (else-word-at′ .ensures) (enum-told′ .given .1)
 
 returns-3 : tie.Need-returns-3

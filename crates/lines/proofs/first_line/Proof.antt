@@ -24,7 +24,8 @@ unfolding firstLine
 returns c =
     let bound-word-at′ = c .before .before .before .bound-word-at in
     let enum-told2′ = c .before .enum-told2 in
-    after-no (bound-word-at′ .result) _ _ (enum-told2′ .given .0 .0) _ (bound-word-at′ .ensures) (enum-told2′ .given .1) (c .number .ensures)
+    after-no (bound-word-at′ .result) _ _ (enum-told2′ .given .0 .0) _ (bound-word-at′ .ensures) (enum-told2′ .given .1)
+    (c .number .ensures)
 
 range-at-requires : tie.Need-range-at-requires
 range-at-requires c κs = search needs

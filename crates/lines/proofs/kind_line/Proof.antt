@@ -19,7 +19,12 @@ add-t11 : tie.Need-add-t11
 add-t11 c =
     let args′ = c .before .before .before .before .args in
     let good′ = c .before .before .before .before .good in
-    omega (arith, fixed-within maybeWord (args′ .s .now) (args′ .b .column) (sym (c .before .follows .ensures) ∙ c .if1 .taken) (omega arith), good′)
+    omega (
+      arith,
+      fixed-within maybeWord (args′ .s .now) (args′ .b .column) (sym (c .before .follows .ensures) ∙ c .if1 .taken)
+          (omega arith),
+      good′,
+    )
 
 begun-requires : tie.Need-begun-requires
 begun-requires c κs = search needs
@@ -43,7 +48,12 @@ add-t17 : tie.Need-add-t17
 add-t17 c =
     let args′ = c .before .before .before .before .before .before .before .args in
     let good′ = c .before .before .before .before .before .before .before .good in
-    omega (arith, fixed-within criticalWord (args′ .s .now) (args′ .b .column) (sym (c .before .follows2 .ensures) ∙ c .if2 .taken) (omega arith), good′)
+    omega (
+      arith,
+      fixed-within criticalWord (args′ .s .now) (args′ .b .column) (sym (c .before .follows2 .ensures) ∙ c .if2 .taken)
+          (omega arith),
+      good′,
+    )
 
 begun-requires-2 : tie.Need-begun-requires-2
 begun-requires-2 c κs = search needs
@@ -56,7 +66,8 @@ unfolding kindLine
 returns-2 c = let a = c .before .before .before .before .before .before .before .before .before .args in
     c .goto-line2 .ensures ∙ ap (λ (p : Step). gotoLine (a .s .now) (on (a .b) 8) p) (c .before .begun2 .ensures)
     ∙ picked _ _ _ (sym (c .before .before .before .follows2 .ensures) ∙ c .before .before .if2 .taken)
-    ∙ passed _ _ _ (sym (c .before .before .before .before .before .before .follows .ensures) ∙ c .before .before .before .before .before .if1 .left)
+    ∙ passed _ _ _ (sym (c .before .before .before .before .before .before .follows .ensures)
+    ∙ c .before .before .before .before .before .if1 .left)
 
 slice-aggregate-follows-3 : tie.Need-slice-aggregate-follows-3
 slice-aggregate-follows-3 c = search needs
@@ -68,7 +79,11 @@ add-t23 : tie.Need-add-t23
 add-t23 c =
     let args′ = c .before .before .before .before .before .before .before .before .before .before .args in
     let good′ = c .before .before .before .before .before .before .before .before .before .before .good in
-    omega (arith, fixed-within ifWord (args′ .s .now) (args′ .b .column) (sym (c .before .follows3 .ensures) ∙ c .if3 .taken) (omega arith), good′)
+    omega (
+      arith,
+      fixed-within ifWord (args′ .s .now) (args′ .b .column) (sym (c .before .follows3 .ensures) ∙ c .if3 .taken) (omega arith),
+      good′,
+    )
 
 begun-requires-3 : tie.Need-begun-requires-3
 begun-requires-3 c κs = search needs

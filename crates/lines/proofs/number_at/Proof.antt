@@ -43,7 +43,8 @@ returns c =
     let byte-at2′ = c .before .before .before .before .byte-at2 in
     let is-digit′ = c .before .before .before .is-digit in
     let if1′ = c .before .before .if1 in
-    number-two (args′ .s .now) (args′ .column) _ _ _ _ (byte-at′ .ensures) (byte-at2′ .ensures) (sym (is-digit′ .ensures) ∙ if1′ .taken) (c .before .value .ensures) (c .value2 .ensures)
+    number-two (args′ .s .now) (args′ .column) _ _ _ _ (byte-at′ .ensures) (byte-at2′ .ensures) (sym (is-digit′ .ensures) ∙ if1′ .taken)
+    (c .before .value .ensures) (c .value2 .ensures)
 
 returns-2 : tie.Need-returns-2
 returns-2 c =
@@ -51,7 +52,8 @@ returns-2 c =
     let byte-at′ = c .before .before .before .before .byte-at in
     let byte-at2′ = c .before .before .before .byte-at2 in
     let is-digit′ = c .before .before .is-digit in
-    number-one (args′ .s .now) (args′ .column) _ _ _ (byte-at′ .ensures) (byte-at2′ .ensures) (sym (is-digit′ .ensures) ∙ c .before .if1 .left) (c .value3 .ensures)
+    number-one (args′ .s .now) (args′ .column) _ _ _ (byte-at′ .ensures) (byte-at2′ .ensures)
+    (sym (is-digit′ .ensures) ∙ c .before .if1 .left) (c .value3 .ensures)
 
 pub number-at-spec : {M : Type 1} → statement M
 number-at-spec =

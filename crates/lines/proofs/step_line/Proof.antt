@@ -18,9 +18,11 @@ looked : (c : tie.After-find) → let a = c .before .before .before .before .bef
 looked c =
     let o = c .before .before .before .before in
     let a = o .before .before .before .args in
-    let ends = word-to 32 4 65 66 10 11 (a .s .now) (a .at) (o .name-at .result) (o .name-at .ensures) (c .before .before .enum-told .given .1) in
+    let ends = word-to 32 4 65 66 10 11 (a .s .now) (a .at) (o .name-at .result) (o .name-at .ensures)
+    (c .before .before .enum-told .given .1) in
     c .find .ensures
-    ∙ ap (λ (w : List ℕ). lookup (a .labels .now) (a .count) w) (word-part 32 (a .s .now) (a .at .column) (o .name-at .result .at .column) ends)
+    ∙ ap (λ (w : List ℕ). lookup (a .labels .now) (a .count) w)
+    (word-part 32 (a .s .now) (a .at .column) (o .name-at .result .at .column) ends)
 
 name-at-requires : tie.Need-name-at-requires
 name-at-requires c κs = search needs

@@ -85,8 +85,10 @@ goto-line-requires c κs = search needs
 returns-4 : tie.Need-returns-4
 unfolding testLine
 returns-4 c =
-    let a = c .before .before .before .before .before .before .before .before .before .before .before .before .before .before .before .args in
-    let variable-at′ = c .before .before .before .before .before .before .before .before .before .before .before .before .before .variable-at in
+    let a = c .before .before .before .before .before .before .before .before .before .before .before .before .before .before .before
+    .args in
+    let variable-at′ =
+    c .before .before .before .before .before .before .before .before .before .before .before .before .before .variable-at in
     let enum-told′ = c .before .before .before .before .before .before .before .before .before .before .before .enum-told in
     let equals-at′ = c .before .before .before .before .before .before .before .before .before .equals-at in
     let enum-told3′ = c .before .before .before .before .before .before .before .enum-told3 in

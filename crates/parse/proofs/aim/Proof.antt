@@ -40,7 +40,12 @@ element-copy-out-if1 c =
     let pre′ = c .before .before .before .before .before .before .pre in
     let find′ = c .before .before .before .find in
     let f′ = c .before .f in
-    omega (arith, lookup-below (a .labels .now) (a .m) (slice (a .k * 4) (a .k * 4 + 4) (a .names .now)) (f′ .given .0 .0) (sym (find′ .ensures) ∙ f′ .given .1), pre′)
+    omega (
+      arith,
+      lookup-below (a .labels .now) (a .m) (slice (a .k * 4) (a .k * 4 + 4) (a .names .now)) (f′ .given .0 .0)
+          (sym (find′ .ensures) ∙ f′ .given .1),
+      pre′,
+    )
 
 element-copy-out-if1-2 : tie.Need-element-copy-out-if1-2
 element-copy-out-if1-2 c = search needs
@@ -51,7 +56,12 @@ add-t23 c =
     let pre′ = c .before .before .before .before .before .before .before .before .before .pre in
     let find′ = c .before .before .before .before .before .before .find in
     let f′ = c .before .before .before .before .f in
-    omega (arith, lookup-below (a .labels .now) (a .m) (slice (a .k * 4) (a .k * 4 + 4) (a .names .now)) (f′ .given .0 .0) (sym (find′ .ensures) ∙ f′ .given .1), pre′)
+    omega (
+      arith,
+      lookup-below (a .labels .now) (a .m) (slice (a .k * 4) (a .k * 4 + 4) (a .names .now)) (f′ .given .0 .0)
+          (sym (find′ .ensures) ∙ f′ .given .1),
+      pre′,
+    )
 
 returns-2 : tie.Need-returns-2
 returns-2 c =

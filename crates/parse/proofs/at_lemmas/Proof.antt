@@ -32,7 +32,8 @@ returns-2 c =
     let if1′ = c .before .before .before .before .before .if1 in
     let first-of2′ = c .before .before .first-of2 in
     c .refused2 .ensures
-    ∙ at-98 (args′ .d) (args′ .n) (first-of′ .result) (first-of2′ .result) (first-of′ .ensures) (first-of2′ .ensures) (if1′ .left) (c .before .if2 .taken)
+    ∙ at-98 (args′ .d) (args′ .n) (first-of′ .result) (first-of2′ .result) (first-of′ .ensures) (first-of2′ .ensures) (if1′ .left)
+    (c .before .if2 .taken)
 
 link-requires : tie.Need-link-requires
 link-requires c κs = search needs
@@ -68,7 +69,9 @@ refused-requires-3 c κs = search needs
 
 returns-4 : tie.Need-returns-4
 returns-4 c =
-    let args′ = c .before .before .before .before .before .before .before .before .before .before .before .before .before .before .before .before .before .args in
+    let args′ =
+    c .before .before .before .before .before .before .before .before .before .before .before .before .before .before .before .before
+    .before .args in
     let first-of′ = c .before .before .before .before .before .before .before .before .before .before .before .before .before .first-of in
     let if1′ = c .before .before .before .before .before .before .before .before .before .before .before .before .if1 in
     let first-of2′ = c .before .before .before .before .before .before .before .before .before .first-of2 in
@@ -79,7 +82,8 @@ returns-4 c =
     let d = args′ .d in
     let critical = critical-is d (args′ .n) (first-of′ .result) (first-of2′ .result) (first-of′ .ensures) (first-of2′ .ensures) in
     c .refused3 .ensures
-    ∙ start-critical d (args′ .n) (link′ .result) _ (link′ .ensures) (enum-told′ .given .1) (sym critical ∙ sym (both-critical′ .ensures) ∙ c .before .if3 .taken)
+    ∙ start-critical d (args′ .n) (link′ .result) _ (link′ .ensures) (enum-told′ .given .1)
+    (sym critical ∙ sym (both-critical′ .ensures) ∙ c .before .if3 .taken)
     ∙ at-on d (args′ .n) (first-of′ .result) (first-of2′ .result) (first-of′ .ensures) (first-of2′ .ensures) (if1′ .left) (if2′ .left)
 
 without-lemmas-requires : tie.Need-without-lemmas-requires
@@ -87,7 +91,9 @@ without-lemmas-requires c κs = search needs
 
 returns-5 : tie.Need-returns-5
 returns-5 c =
-    let args′ = c .before .before .before .before .before .before .before .before .before .before .before .before .before .before .before .before .before .args in
+    let args′ =
+    c .before .before .before .before .before .before .before .before .before .before .before .before .before .before .before .before
+    .before .args in
     let first-of′ = c .before .before .before .before .before .before .before .before .before .before .before .before .before .first-of in
     let if1′ = c .before .before .before .before .before .before .before .before .before .before .before .before .if1 in
     let first-of2′ = c .before .before .before .before .before .before .before .before .before .first-of2 in
@@ -98,7 +104,8 @@ returns-5 c =
     let d = args′ .d in
     let critical = critical-is d (args′ .n) (first-of′ .result) (first-of2′ .result) (first-of′ .ensures) (first-of2′ .ensures) in
     ap (λ (j : Job). accept j) (c .without-lemmas .ensures)
-    ∙ start-on d (args′ .n) (link′ .result) _ (link′ .ensures) (enum-told′ .given .1) (sym critical ∙ sym (both-critical′ .ensures) ∙ c .before .if3 .left)
+    ∙ start-on d (args′ .n) (link′ .result) _ (link′ .ensures) (enum-told′ .given .1)
+    (sym critical ∙ sym (both-critical′ .ensures) ∙ c .before .if3 .left)
     ∙ at-on d (args′ .n) (first-of′ .result) (first-of2′ .result) (first-of′ .ensures) (first-of2′ .ensures) (if1′ .left) (if2′ .left)
 
 pub at-lemmas-spec : {M : Type 1} → statement M

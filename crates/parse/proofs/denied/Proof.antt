@@ -17,7 +17,8 @@ returns : tie.Need-returns
 returns c =
     let args′ = c .before .before .args in
     let v = args′ .verdict in
-    ap (λ (j : Job). record { verdict = v; job = j }) (c .without-lemmas .ensures ∙ ap (λ (d : Draft). withoutLemmas d (d .program)) (c .before .blank .ensures))
+    ap (λ (j : Job). record { verdict = v; job = j })
+    (c .without-lemmas .ensures ∙ ap (λ (d : Draft). withoutLemmas d (d .program)) (c .before .blank .ensures))
 
 pub denied-spec : {M : Type 1} → statement M
 denied-spec = tie.close (tie.spec blank-requires without-lemmas-requires returns)

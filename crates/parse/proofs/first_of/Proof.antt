@@ -27,7 +27,8 @@ returns : tie.Need-returns Inv-loop μ-loop
 returns c =
     let a = c .before .before .before .before .args in
     let loop′ = c .before .before .before .loop in
-    sym (first-found (λ n. eqb (num (a .process .now) n) (a .p)) (loop′ .i) (a .m) (loop′ .inv .1) (eq-eqb _ _ (c .if1 .taken)) (omega arith))
+    sym (first-found (λ n. eqb (num (a .process .now) n) (a .p)) (loop′ .i) (a .m) (loop′ .inv .1) (eq-eqb _ _ (c .if1 .taken))
+    (omega arith))
 
 add-i : tie.Need-add-i Inv-loop μ-loop
 add-i c = search needs

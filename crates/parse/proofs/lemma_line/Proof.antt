@@ -40,7 +40,8 @@ returns-2 c =
     let args′ = c .before .before .before .before .before .before .before .args in
     let line′ = c .before .before .before .before .before .line in
     let enum-told′ = c .before .before .before .enum-told in
-    c .refused2 .ensures ∙ picked _ _ _ (le-leb _ _ (c .before .if1 .taken)) ∙ is-whole (line′ .result) _ (args′ .n) _ (line′ .ensures) (enum-told′ .given .1)
+    c .refused2 .ensures ∙ picked _ _ _ (le-leb _ _ (c .before .if1 .taken))
+    ∙ is-whole (line′ .result) _ (args′ .n) _ (line′ .ensures) (enum-told′ .given .1)
 
 lemma-of-requires : tie.Need-lemma-of-requires
 lemma-of-requires c κs = search needs
@@ -51,7 +52,8 @@ returns-3 c =
     let args′ = c .before .before .before .before .before .before .before .args in
     let line′ = c .before .before .before .before .before .line in
     let enum-told′ = c .before .before .before .enum-told in
-    c .lemma-of .ensures ∙ passed _ _ _ (lt-leb _ _ (c .before .if1 .left)) ∙ is-whole (line′ .result) _ (args′ .n) _ (line′ .ensures) (enum-told′ .given .1)
+    c .lemma-of .ensures ∙ passed _ _ _ (lt-leb _ _ (c .before .if1 .left))
+    ∙ is-whole (line′ .result) _ (args′ .n) _ (line′ .ensures) (enum-told′ .given .1)
 
 pub lemma-line-spec : {M : Type 1} → statement M
 lemma-line-spec =

@@ -27,15 +27,19 @@ abbrev μ-loop : tie.MeasureT-loop
 μ-loop text from before at₀ n₀ j₀ at n j = length text - at
 
 -- the line that begins at at ends in the text
-ends : (c : tie.After-end-of Inv-loop μ-loop) → (c .before .before .loop .at ≤ c .end-of .result) × (c .end-of .result ≤ length (c .before .before .before .before .args .text .now))
-ends c = line-within (c .before .before .before .before .args .text .now) (c .before .before .loop .at) (c .end-of .result) (omega arith) (c .end-of .ensures)
+ends : (c : tie.After-end-of Inv-loop μ-loop) → (c .before .before .loop .at ≤ c .end-of .result)
+    × (c .end-of .result ≤ length (c .before .before .before .before .args .text .now))
+ends c = line-within (c .before .before .before .before .args .text .now) (c .before .before .loop .at) (c .end-of .result) (omega arith)
+    (c .end-of .ensures)
 
 -- the program stays as it was
-same : (c : tie.After-lemma-line Inv-loop μ-loop) → Holds (λ (x : Job). x .program ≡ c .before .before .before .before .before .before .args .start .program) (c .lemma-line .result)
+same : (c : tie.After-lemma-line Inv-loop μ-loop)
+    → Holds (λ (x : Job). x .program ≡ c .before .before .before .before .before .before .args .start .program) (c .lemma-line .result)
 same c =
     let o = c .before .before .before .before in
     let P = o .before .before .args .start .program in
-    subst (λ (r : Reading). Holds (λ (x : Job). x .program ≡ P) r) (sym (c .lemma-line .ensures)) (line-same P (o .loop .j) _ _ (o .loop .inv .1))
+    subst (λ (r : Reading). Holds (λ (x : Job). x .program ≡ P) r) (sym (c .lemma-line .ensures))
+    (line-same P (o .loop .j) _ _ (o .loop .inv .1))
 
 -- what is left before the line, by the line's answer
 turn : (c : tie.After-lemma-line Inv-loop μ-loop) →
@@ -93,7 +97,11 @@ returns c =
     c .denied .ensures ∙ turn (c4) _ (ends-here (lemma-line′ .result) _ _ refl (enum-told2′ .given .0 .0) (enum-told2′ .given .1))
 
 add-at : tie.Need-add-at Inv-loop μ-loop
-add-at c = omega (arith, ends (c .before .before .before .before .before), c .before .before .before .before .before .before .before .before .before .pre)
+add-at c = omega (
+  arith,
+  ends (c .before .before .before .before .before),
+  c .before .before .before .before .before .before .before .before .before .pre,
+)
 
 add-n : tie.Need-add-n Inv-loop μ-loop
 add-n c = search needs
@@ -108,12 +116,16 @@ loop-again c =
     let c5 = c .before .before .before .before .before in
     let c3 = c .before .before .before in
     let e = ends (c5) in
-    let r = lemma-line′ .result in
-    (omega (arith, e, loop′ .inv .0), holds-of _ r (same (c3)) (c .enum-told .given .1), sym (turn (c3) _ (goes-on r _ _ refl (c .enum-told .given .1))))
+    let r = lemma-line′ .result in (
+      omega (arith, e, loop′ .inv .0),
+      holds-of _ r (same (c3)) (c .enum-told .given .1),
+      sym (turn (c3) _ (goes-on r _ _ refl (c .enum-told .given .1))),
+    )
 
 returns-2 : tie.Need-returns-2 Inv-loop μ-loop
 returns-2 c = let none = lines-out (c .before .before .before .args .text .now) (c .before .loop .at) (omega arith) in
-    sym (c .before .loop .inv .2 ∙ ap (lemmaLines (c .before .loop .j) (c .before .loop .n)) none ∙ lines-none (c .before .loop .j) (c .before .loop .n))
+    sym (c .before .loop .inv .2 ∙ ap (lemmaLines (c .before .loop .j) (c .before .loop .n)) none
+    ∙ lines-none (c .before .loop .j) (c .before .loop .n))
 
 pub lemma-lines-spec : {M : Type 1} → statement M
 lemma-lines-spec =

@@ -51,7 +51,12 @@ cast-q c =
     let d = args′ .t1 in
     let k = args′ .k in
     let w = slice (k * 4) (k * 4 + 4) (d .other) in
-    omega (arith, target-is (d .program .process) (d .labels) (d .program .steps) k w (t′ .given .0 .0) (sym (aim′ .ensures) ∙ t′ .given .1), pre′)
+    omega (
+      arith,
+      target-is (d .program .process) (d .labels) (d .program .steps) k w (t′ .given .0 .0)
+          (sym (aim′ .ensures) ∙ t′ .given .1),
+      pre′,
+    )
 
 mul-q : tie.Need-mul-q
 mul-q c = search needs

@@ -19,7 +19,8 @@ enum-told-2 c = search needs
 
 returns : tie.Need-returns
 unfolding linkStep
-returns c = link-ends (c .before .before .link-to .result) _ _ (c .before .before .link-to .ensures) (c .enum-told2 .given .0 .0) (c .enum-told2 .given .1)
+returns c = link-ends (c .before .before .link-to .result) _ _ (c .before .before .link-to .ensures) (c .enum-told2 .given .0 .0)
+    (c .enum-told2 .given .1)
 
 element-copy-out-if1 : tie.Need-element-copy-out-if1
 element-copy-out-if1 c = search needs

@@ -25,7 +25,8 @@ returns c =
     let enum-told′ = c .before .enum-told in
     promised (args′ .text .now) _
     (c .stopped .ensures
-    ∙ no-program (args′ .text .now) (program′ .result) (program′ .ensures) (enum-told′ .given .0 .0) (enum-told′ .given .0 .1 .0) (enum-told′ .given .1))
+    ∙ no-program (args′ .text .now) (program′ .result) (program′ .ensures) (enum-told′ .given .0 .0) (enum-told′ .given .0 .1 .0)
+    (enum-told′ .given .1))
 
 at-lemmas-requires : tie.Need-at-lemmas-requires
 at-lemmas-requires c κs =

@@ -26,7 +26,8 @@ unfolding addStep
 returns c =
     let a = c .before .before .before .before .before .args in
     let if1′ = c .before .before .if1 in
-    c .entered .ensures ∙ ap (λ (e : Draft). enter e (a .s .now) (a .p) (a .n)) (c .before .mentioned .ensures) ∙ rw (le-leb 3 (a .p .kind) (if1′ .taken))
+    c .entered .ensures ∙ ap (λ (e : Draft). enter e (a .s .now) (a .p) (a .n)) (c .before .mentioned .ensures)
+    ∙ rw (le-leb 3 (a .p .kind) (if1′ .taken))
 
 entered-requires-2 : tie.Need-entered-requires-2
 entered-requires-2 c κs = search needs

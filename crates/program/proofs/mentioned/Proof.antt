@@ -19,14 +19,22 @@ add-p c =
     let a = c .before .before .before .before .before .before .before .before .before .args in
     let find′ = c .before .before .before .find in
     let f′ = c .before .f in
-    omega (arith, lookup-below (a .d .names) (a .d .program .variables) (slice (a .from) (a .to) (a .s .now)) (f′ .given .0 .0) (sym (find′ .ensures) ∙ f′ .given .1))
+    omega (
+      arith,
+      lookup-below (a .d .names) (a .d .program .variables) (slice (a .from) (a .to) (a .s .now)) (f′ .given .0 .0)
+          (sym (find′ .ensures) ∙ f′ .given .1),
+    )
 
 cast-p : tie.Need-cast-p
 cast-p c =
     let a = c .before .before .before .before .before .before .before .before .before .args in
     let find′ = c .before .before .before .find in
     let f′ = c .before .f in
-    omega (arith, lookup-below (a .d .names) (a .d .program .variables) (slice (a .from) (a .to) (a .s .now)) (f′ .given .0 .0) (sym (find′ .ensures) ∙ f′ .given .1))
+    omega (
+      arith,
+      lookup-below (a .d .names) (a .d .program .variables) (slice (a .from) (a .to) (a .s .now)) (f′ .given .0 .0)
+          (sym (find′ .ensures) ∙ f′ .given .1),
+    )
 
 element-write-p : tie.Need-element-write-p
 element-write-p c = search needs

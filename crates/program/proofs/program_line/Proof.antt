@@ -69,7 +69,8 @@ add-step-requires c κs = search needs
 returns-5 : tie.Need-returns-5
 unfolding programLine isComment
 returns-5 c =
-    let a = c .before .before .before .before .before .before .before .before .before .before .before .before .before .before .before .args in
+    let a = c .before .before .before .before .before .before .before .before .before .before .before .before .before .before .before
+    .args in
     let is-lemmas′ = c .before .before .before .before .before .before .before .before .before .before .before .before .before .is-lemmas in
     let if1′ = c .before .before .before .before .before .before .before .before .before .before .before .before .if1 in
     let follows′ = c .before .before .before .before .before .before .before .before .before .before .follows in

@@ -24,8 +24,10 @@ abbrev μ-loop : tie.MeasureT-loop
 μ-loop text from at₀ n₀ d₀ at n d = length text - at
 
 -- the line that begins at at ends in the text
-ends : (c : tie.After-end-of Inv-loop μ-loop) → (c .before .before .loop .at ≤ c .end-of .result) × (c .end-of .result ≤ length (c .before .before .before .before .args .text .now))
-ends c = line-within (c .before .before .before .before .args .text .now) (c .before .before .loop .at) (c .end-of .result) (omega arith) (c .end-of .ensures)
+ends : (c : tie.After-end-of Inv-loop μ-loop) → (c .before .before .loop .at ≤ c .end-of .result)
+    × (c .end-of .result ≤ length (c .before .before .before .before .args .text .now))
+ends c = line-within (c .before .before .before .before .args .text .now) (c .before .before .loop .at) (c .end-of .result) (omega arith)
+    (c .end-of .ensures)
 
 -- what is left before the line, by the line's answer
 turn : (c : tie.After-line-of Inv-loop μ-loop) →
@@ -33,14 +35,16 @@ turn : (c : tie.After-line-of Inv-loop μ-loop) →
     let e = c .before .before .end-of .result in
     let text = o .before .before .args .text .now in
     program (o .before .before .args .start) (o .before .before .args .from) 1 (lines (drop (o .before .before .args .from) text))
-    ≡ follow (c .line-of .result .next) (c .line-of .result .draft) (o .loop .n + 1) (e + 1) λ x. program x (e + 1) (o .loop .n + 1) (lines (drop (e + 1) text))
+    ≡ follow (c .line-of .result .next) (c .line-of .result .draft) (o .loop .n + 1) (e + 1) λ x.
+    program x (e + 1) (o .loop .n + 1) (lines (drop (e + 1) text))
 turn c =
     let end-of′ = c .before .before .end-of in
     let o = c .before .before .before .before in
     let text = o .before .before .args .text .now in
     let h : o .loop .at < length text = omega arith in
     o .loop .inv .3
-    ∙ program-turn text (o .loop .at) (end-of′ .result) h (end-of′ .ensures) (o .loop .d) (o .loop .n) (c .line-of .result) (c .line-of .ensures)
+    ∙ program-turn text (o .loop .at) (end-of′ .result) h (end-of′ .ensures) (o .loop .d) (o .loop .n) (c .line-of .result)
+    (c .line-of .ensures)
 
 kept : (c : tie.After-line-of Inv-loop μ-loop) → Within (c .line-of .result .draft)
 kept c =
@@ -72,10 +76,18 @@ enum-told : tie.Need-enum-told Inv-loop μ-loop
 enum-told c = search needs
 
 add-stopped : tie.Need-add-stopped Inv-loop μ-loop
-add-stopped c = omega (arith, ends (c .before .before .before .before), c .before .before .before .before .before .before .before .before .pre)
+add-stopped c = omega (
+  arith,
+  ends (c .before .before .before .before),
+  c .before .before .before .before .before .before .before .before .pre,
+)
 
 add-stopped-2 : tie.Need-add-stopped-2 Inv-loop μ-loop
-add-stopped-2 c = omega (arith, ends (c .before .before .before .before), c .before .before .before .before .before .before .before .before .pre)
+add-stopped-2 c = omega (
+  arith,
+  ends (c .before .before .before .before),
+  c .before .before .before .before .before .before .before .before .pre,
+)
 
 stopped-requires : tie.Need-stopped-requires Inv-loop μ-loop
 stopped-requires c κs = search needs
@@ -84,7 +96,11 @@ returns : tie.Need-returns Inv-loop μ-loop
 returns c = c .stopped .ensures ∙ not-more _ (c .before .match .keys2) _ _ _ _ _ ∙ sym (turn (c .before .before .before))
 
 add-at : tie.Need-add-at Inv-loop μ-loop
-add-at c = omega (arith, ends (c .before .before .before .before .before), c .before .before .before .before .before .before .before .before .before .pre)
+add-at c = omega (
+  arith,
+  ends (c .before .before .before .before .before),
+  c .before .before .before .before .before .before .before .before .before .pre,
+)
 
 add-n : tie.Need-add-n Inv-loop μ-loop
 add-n c = search needs
@@ -113,7 +129,8 @@ returns-2 c =
     let o = c .before .before in
     let none = lines-out (args′ .text .now) (o .loop .at) (omega arith) in
     c .refused .ensures
-    ∙ sym (o .loop .inv .3 ∙ ap (program (o .loop .d) (o .loop .at) (o .loop .n)) none ∙ program-none (o .loop .d) (o .loop .at) (o .loop .n))
+    ∙ sym (o .loop .inv .3 ∙ ap (program (o .loop .d) (o .loop .at) (o .loop .n)) none
+    ∙ program-none (o .loop .d) (o .loop .at) (o .loop .n))
 
 pub program-lines-spec : {M : Type 1} → statement M
 program-lines-spec =

@@ -49,7 +49,12 @@ element-write-names-4 : tie.Need-element-write-names-4
 element-write-names-4 c = search needs
 
 returns : tie.Need-returns
-returns c = rw (c .before .before .before .part-at .ensures, c .before .before .part-at2 .ensures, c .before .part-at3 .ensures, c .part-at4 .ensures)
+returns c = rw (
+  c .before .before .before .part-at .ensures,
+  c .before .before .part-at2 .ensures,
+  c .before .part-at3 .ensures,
+  c .part-at4 .ensures,
+)
 
 pub put-spec : {M : Type 1} → statement M
 put-spec =
