@@ -129,16 +129,13 @@ def svg_bit(run, name, times, x0, top):
     yield f'<polyline points="{" ".join(points)}" fill="none" stroke="{INK}" stroke-width="2"/>'
 
 
-def crash_mark(x, y, width, height):
-    yield f'<rect x="{x}" y="{y}" width="{width}" height="{height}" fill="none" stroke="{ALARM}" stroke-width="3" rx="4"/>'
-
-
-def svg_crashes(run, times, x0, top, bottom, critical):
-    """A frame around the two processes and the word below, in each column of a crash."""
+def svg_crashes(run, times, x0, top, critical):
+    """Between the rows of A and B, in each column of a crash."""
+    y = top + ROW + HIGH
     for time in set(run.crashes(critical)).intersection(times):
         x = x0 + (time - times[0]) * COLUMN
-        yield from crash_mark(x + 2, top + ROW - 5, COLUMN - 4, 2 * ROW - 4)
-        yield written(x + COLUMN // 2, bottom + 32, "crash", text_anchor="middle", font_weight="bold", fill=ALARM)
+        yield f'<rect x="{x}" y="{y}" width="{COLUMN}" height="{ROW - HIGH}" fill="{ALARM}"/>'
+        yield written(x + COLUMN // 2, y + 11, "crash", text_anchor="middle", font_size=12, font_weight="bold", fill="white")
 
 
 def svg_band(run, times, top, critical):
@@ -158,7 +155,7 @@ def svg_band(run, times, top, critical):
     for column, time in enumerate(times):
         if run.turns[time]:
             yield from disc(x0 + (column + 1) * COLUMN, bottom + 11, run.turns[time])
-    yield from svg_crashes(run, times, x0, top, bottom, critical)
+    yield from svg_crashes(run, times, x0, top, critical)
 
 
 def svg_legend(y, has_critical):
