@@ -1,4 +1,4 @@
-"""What each refusal of document 01 means, in words: its number, what its place is, a sentence."""
+"""What each refusal of documents 01 and 02 means, in words: its number, what its place is, a sentence."""
 
 JOB, REPLY, NONE = "line of the job", "line of the reply", "none"
 
@@ -7,7 +7,7 @@ REFUSALS = {
     2: (JOB, "This line has more than 1,022 bytes."),
     3: (JOB, "This line has a byte that is not printable ASCII: a tab (\\x09), an accent, a Windows line end (\\x0d)."),
     4: (JOB, "This is the last line, and it lacks its line end."),
-    5: (JOB, "Line 1 must be 'bound R', R from 1 to 99 without a leading zero."),
+    5: (JOB, "Line 1 must be 'bound R', 'bound R start' or 'bound R crash' and nothing more; R is from 1 to 99 without a leading zero."),
     6: (JOB, "The job ends without the line 'lemmas'."),
     7: (JOB, "This would be the 101st step; a job has at most 100."),
     10: (JOB, "The step's name has more than 4 characters."),
@@ -34,7 +34,7 @@ REFUSALS = {
     50: (NONE, "There is no clause with this number."),
     51: (NONE, "A lent buffer is too short."),
     52: (NONE, "The job is too large for show_run: it takes at most 32,768 variables and a reply of at most 32,768 bytes."),
-    55: (JOB, "The first step of A and the first step of B are both critical."),
+    55: (JOB, "The first step of A and the first step of B are both critical, so the start that line 1 asks for is a crash already."),
     60: (NONE, "The reply has more than 16,777,216 bytes."),
     61: (REPLY, "The reply is not 's SATISFIABLE' and then lines of 'v' and numbers, the last one 0."),
     62: (REPLY, "The reply has a number that no variable has."),
@@ -43,7 +43,7 @@ REFUSALS = {
     65: ("clause", "The reply makes this clause false."),
     66: (REPLY, "There is no run of this length, says the solver."),
     67: ("time", "The values are not a state at this time, or a turn or helper is not 0 or 1."),
-    69: ("time", "The run breaks a rule at this time."),
+    69: ("time", "The run breaks a rule at this time, or is not at the start, or not in the crash, that line 1 asks for."),
     98: (JOB, "There is no step of B."),
     99: (JOB, "There is no step of A."),
 }

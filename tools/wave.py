@@ -1,8 +1,8 @@
 #!/usr/bin/env python3
 """A run, as show_run prints it, drawn as a timing diagram: a row for each process and each bit, a column for each time, whose turn
-leads to the next time below.
+leads to the next time below. Where both processes stand at critical steps the column is marked as a crash.
 
-    wave.py [--width N] [--svg FILE] < RUN
+    wave.py [--width N] [--svg FILE] [--critical STEP ...] < RUN
 """
 import argparse
 import re
@@ -37,6 +37,11 @@ class Run:
         return time == 0 or values[time] != values[time - 1]
 
 
+    def crashes(self, critical):
+        """The times at which both processes stand at steps named as critical."""
+        return [time for time in range(self.times) if all(self.signals[process][time] in critical for process in "AB")]
+
+
 def is_bit(name):
     return name not in ("A", "B")
 
@@ -52,10 +57,10 @@ def cell(run, name, time, first, size):
     return ("|" if change else " ") + shown.ljust(size - 1)
 
 
-def text(run, width=100):
-    """The diagram in plain text, in blocks that are no wider than asked (one column at least)."""
-    size = 2 + max(len(value) for name in "AB" for value in run.signals[name])
-    margin = 2 + max(map(len, ["time", *run.signals]))
+def text(run, width=100, critical=()):
+    """The diagram in plain text, in blocks that are no wider than asked (one column at least). A last row marks a crash."""
+    size, crashes = 2 + max(len(value) for name in "AB" for value in run.signals[name]), run.crashes(critical)
+    margin = 2 + max(map(len, ["crash" if crashes else "time", *run.signals]))
     at_once = max(1, (width - margin) // size)
     blocks = []
     for start in range(0, run.times, at_once):
@@ -63,6 +68,8 @@ def text(run, width=100):
         rows = [("time", [str(time).ljust(size) for time in times])]
         rows += [(name, [cell(run, name, time, time == start, size) for time in times]) for name in run.signals]
         rows += [("turn", [run.turns[time].center(size) for time in times])]
+        if any(time in crashes for time in times):
+            rows += [("crash", [("*" * (size - 1) if time in crashes else "").center(size) for time in times])]
         blocks.append("\n".join((name.ljust(margin) + "".join(cells)).rstrip() for name, cells in rows))
     return "\n\n".join(blocks) + "\n"
 
@@ -70,7 +77,7 @@ def text(run, width=100):
 # ---- the picture, in points: bands of at most BAND times, each with a row of times, the signals, and the turns between the times
 MARGIN, LABEL, COLUMN, ROW, HIGH, BAND = 24, 48, 56, 36, 22, 16
 TOP, BELOW, LEAST = 64, 64, 720   # above the first band: the title; below the last: the legend, which asks for a width
-INK, GRID = "#222222", "#dddddd"
+INK, GRID, ALARM = "#222222", "#dddddd", "#c62828"
 FILL = {"A": "#d6e6f5", "B": "#fbe3c8"}
 DARK = {"A": "#2f6fa8", "B": "#a65a10"}
 
@@ -122,6 +129,15 @@ def svg_bit(run, name, times, x0, top):
     yield f'<polyline points="{" ".join(points)}" fill="none" stroke="{INK}" stroke-width="2"/>'
 
 
+def svg_crashes(run, times, x0, top, critical):
+    """Between the rows of A and B, in each column of a crash."""
+    y = top + ROW + HIGH
+    for time in set(run.crashes(critical)).intersection(times):
+        x = x0 + (time - times[0]) * COLUMN
+        yield f'<rect x="{x}" y="{y}" width="{COLUMN}" height="{ROW - HIGH}" fill="{ALARM}"/>'
+        yield written(x + COLUMN // 2, y + 11, "crash", text_anchor="middle", font_size=12, font_weight="bold", fill="white")
+
+
 def svg_band(run, times, top, critical):
     x0, bottom = MARGIN + LABEL, top + (len(run.signals) + 1) * ROW
     yield written(MARGIN, top + 16, "time", fill="#666666")
@@ -139,6 +155,7 @@ def svg_band(run, times, top, critical):
     for column, time in enumerate(times):
         if run.turns[time]:
             yield from disc(x0 + (column + 1) * COLUMN, bottom + 11, run.turns[time])
+    yield from svg_crashes(run, times, x0, top, critical)
 
 
 def svg_legend(y, has_critical):
@@ -186,15 +203,16 @@ def main():
     options = argparse.ArgumentParser(description="draw a run that show_run printed")
     options.add_argument("--width", type=int, default=shutil.get_terminal_size((100, 24)).columns)
     options.add_argument("--svg", metavar="FILE")
+    options.add_argument("--critical", metavar="STEP", nargs="+", default=[])
     chosen = options.parse_args()
     try:
         run = Run(sys.stdin.read())
     except ValueError as error:
         sys.exit(f"wave: {error}")
     if chosen.svg:
-        write_svg(run, chosen.svg)
+        write_svg(run, chosen.svg, "a run", chosen.critical)
     else:
-        print(text(run, chosen.width), end="")
+        print(text(run, chosen.width, chosen.critical), end="")
 
 
 if __name__ == "__main__":
