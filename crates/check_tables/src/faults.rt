@@ -16,7 +16,6 @@ pub enum Place {
     Item,
     // An item of -7.
     Negated,
-    Word,
 }
 
 // Place c of a row becomes x; past the end of the row nothing changes.
@@ -42,7 +41,6 @@ pub(crate) fn changed(mut j: Job, place: Place, c: usize, x: u8) -> Job {
         Place::Length => j.lengths[c] = x,
         Place::Item => j.items[c] = item,
         Place::Negated => j.items[c] = -7,
-        Place::Word => p.word = x,
     }
     j.program = p;
     j

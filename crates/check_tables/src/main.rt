@@ -39,14 +39,9 @@ fn show(name: &[u8], j: Job) -> bool {
     }
 }
 
-// The table of four steps with a word behind its bound.
-fn worded(word: u8) -> Job {
-    changed(four_steps(), Place::Word, 0, word)
-}
-
 // The table of four steps with one place changed.
 fn fault(name: &[u8], place: Place, c: usize, x: u8) -> bool {
-    show(name, changed(four_steps(), place, c, x))
+    show(name, changed(four_steps(Job::NO_WORD), place, c, x))
 }
 
 fn sizes() -> bool {
@@ -70,7 +65,7 @@ fn steps() -> bool {
         && fault(b"kind 5", Place::Kind, 2, 5)
         && show(
             b"both first steps critical",
-            changed(worded(Job::START), Place::Kind, 2, 2),
+            changed(four_steps(Job::START), Place::Kind, 2, 2),
         )
         && fault(b"L 0", Place::To, 0, 0)
         && fault(b"L past the steps", Place::To, 0, 5)
@@ -109,16 +104,16 @@ fn lemmas() -> bool {
 
 // 55 is asked of a table with a word alone; the third word is none.
 fn words() -> bool {
-    show(b"four steps from the start", worded(Job::START))
-        && show(b"four steps to a crash", worded(Job::CRASH))
+    show(b"four steps from the start", four_steps(Job::START))
+        && show(b"four steps to a crash", four_steps(Job::CRASH))
         && fault(b"both critical, no word", Place::Kind, 2, 2)
-        && show(b"a third word", worded(3))
+        && show(b"a third word", four_steps(3))
 }
 
 fn main() {
     let _ = show(b"a job in full", one_bit(0))
         && show(b"with lemma ~a", one_bit(1))
-        && show(b"four steps", four_steps())
+        && show(b"four steps", four_steps(Job::NO_WORD))
         && show(b"the largest job", largest())
         && show(b"no step of A", changed(one_bit(0), Place::Process, 0, 2))
         && show(b"no step of B", changed(one_bit(0), Place::Process, 1, 1))

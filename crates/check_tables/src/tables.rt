@@ -67,11 +67,12 @@ pub(crate) fn one_bit(lemmas: u8) -> Job {
     }
 }
 
-// `A0 critical goto A1`, `A1 if a=1 goto A0 else A1`, `B0 maybe goto B0`, `B1 b=0 goto B0`; lemmas `~A0` and `a ~b`.
-pub(crate) fn four_steps() -> Job {
+// `A0 critical goto A1`, `A1 if a=1 goto A0 else A1`, `B0 maybe goto B0`, `B1 b=0 goto B0`; lemmas `~A0` and `a ~b`;
+// with a word behind the bound.
+pub(crate) fn four_steps(word: u8) -> Job {
     let program = Program {
         bound: 1,
-        word: Job::NO_WORD,
+        word,
         steps: 4,
         variables: 2,
         process: row(1, 1, 2, 2),
