@@ -69,7 +69,7 @@ def text(run, width=100, critical=()):
         rows += [(name, [cell(run, name, time, time == start, size) for time in times]) for name in run.signals]
         rows += [("turn", [run.turns[time].center(size) for time in times])]
         if any(time in crashes for time in times):
-            rows += [("crash", [("*" * (size - 1) if time in crashes else "").center(size) for time in times])]
+            rows += [("crash", [("*" * (size - 1) if time in crashes else "").ljust(size) for time in times])]
         blocks.append("\n".join((name.ljust(margin) + "".join(cells)).rstrip() for name, cells in rows))
     return "\n\n".join(blocks) + "\n"
 
