@@ -69,7 +69,7 @@ def text(run, width=100, critical=()):
         rows += [(name, [cell(run, name, time, time == start, size) for time in times]) for name in run.signals]
         rows += [("turn", [run.turns[time].center(size) for time in times])]
         if any(time in crashes for time in times):
-            rows += [("crash", [("*" * (size - 1) if time in crashes else "").center(size) for time in times])]
+            rows += [("crash", [("*" * (size - 1) if time in crashes else "").ljust(size) for time in times])]
         blocks.append("\n".join((name.ljust(margin) + "".join(cells)).rstrip() for name, cells in rows))
     return "\n\n".join(blocks) + "\n"
 
@@ -132,7 +132,7 @@ def svg_bit(run, name, times, x0, top):
 def svg_crashes(run, times, x0, top, critical):
     """Between the rows of A and B, in each column of a crash."""
     y = top + ROW + HIGH
-    for time in set(run.crashes(critical)).intersection(times):
+    for time in filter(times.__contains__, run.crashes(critical)):
         x = x0 + (time - times[0]) * COLUMN
         yield f'<rect x="{x}" y="{y}" width="{COLUMN}" height="{ROW - HIGH}" fill="{ALARM}"/>'
         yield written(x + COLUMN // 2, y + 11, "crash", text_anchor="middle", font_size=12, font_weight="bold", fill="white")
