@@ -36,7 +36,6 @@ class Run:
         values = self.signals[name]
         return time == 0 or values[time] != values[time - 1]
 
-
     def crashes(self, critical):
         """The times at which both processes stand at steps named as critical."""
         return [time for time in range(self.times) if all(self.signals[process][time] in critical for process in "AB")]
