@@ -52,7 +52,8 @@ unfolding starts
 starts-split [] p h = refl
 starts-split (x ∷ xs) [] h = absurd (false≢true h)
 starts-split (x ∷ xs) (b ∷ bs) h =
-    ap (λ c. c ∷ bs) (eqb-true b x (and-left (eqb b x) (starts xs bs) h)) ∙ ap (λ l. x ∷ l) (starts-split xs bs (and-right (eqb b x) (starts xs bs) h))
+    ap (λ c. c ∷ bs) (eqb-true b x (and-left (eqb b x) (starts xs bs) h))
+    ∙ ap (λ l. x ∷ l) (starts-split xs bs (and-right (eqb b x) (starts xs bs) h))
 
 fixed-told : (w s : List ℕ) (number : ℕ) (at : Cursor) → fixedField w number s at .field ≡ Read
     → (starts w (drop (at .column) s) ≡ true) × (fixedField w number s at ≡ went at (length w))
@@ -62,7 +63,8 @@ fixed-told w s number at e = go (starts w (drop (at .column) s)) e
     n : ℕ
     n = length w
 
-    go : (b : Bool) → pickField b (went at n) (refuse at number) .field ≡ Read → (b ≡ true) × (pickField b (went at n) (refuse at number) ≡ went at n)
+    go : (b : Bool) → pickField b (went at n) (refuse at number) .field ≡ Read
+        → (b ≡ true) × (pickField b (went at n) (refuse at number) ≡ went at n)
     go true e = (refl, refl)
     go false e = not-read number e
 
@@ -107,7 +109,8 @@ record Digits (s : List ℕ) (column r word : ℕ) : Type 0 where
   says : wordOf (drop (column + width s column) s) ≡ word
 
 number-told : (s : List ℕ) (at : Cursor) (r word : ℕ)
-    → (after (rangeField s at) λ b. after (boundEndField s b) λ _. Bound (numberAt s (at .column)) (wordOf (drop (b .column) s))) ≡ Bound r word
+    → (after (rangeField s at) λ b. after (boundEndField s b) λ _. Bound (numberAt s (at .column)) (wordOf (drop (b .column) s)))
+    ≡ Bound r word
     → Digits s (at .column) r word
 number-told s at r word e =
     let (f, g) = after-told (rangeField s at) _ r word e in

@@ -72,7 +72,9 @@ module _ (a b : List ℕ) (A : Told a) (B : Told b) where
       let (i, ms, p) = A .reads .again (blank (A .bound) (A .word) .line) 0 1 [] in
       let (j, ns, q) = B .reads .again (blank (B .bound) (B .word) .line) 0 1 [] in
       let same : read (A .bound) (A .word) (kept (A .others)) ≡ read (B .bound) (B .word) (kept (B .others)) =
-      ap (λ n. read n (A .word) (kept (A .others))) r ∙ ap (λ n. read (B .bound) n (kept (A .others))) word ∙ ap (read (B .bound) (B .word)) k in
+      ap (λ n. read n (A .word) (kept (A .others))) r
+      ∙ ap (λ n. read (B .bound) n (kept (A .others))) word
+      ∙ ap (read (B .bound) (B .word)) k in
       (ms, ns, ap (λ (o : Outcome). o .draft) (sym p ∙ same ∙ q))
     where
       read : ℕ → ℕ → List (List ℕ) → Outcome

@@ -10,7 +10,7 @@ use Rattle.job.specs.FitCases.{wordedTable, tableOf, fitTables, unfitTab
 
 pub claim : Claim
 unfolding each every all within passing first oneBit wordedTable tableOf fitTables unfitTables firstOf fitness.larger fitness.isStep
-    fitness.otherFits fitness.variableFits fitness.valueFits fitness.usedStep fitness.unusedStep fitness.mentioned fitness.stepFits fitness.stepsFit
-    fitness.bothStart fitness.bothCritical fitness.programFits fitness.itemFits fitness.placeFits fitness.lengthFits
+    fitness.otherFits fitness.variableFits fitness.valueFits fitness.usedStep fitness.unusedStep fitness.mentioned fitness.stepFits
+    fitness.stepsFit fitness.bothStart fitness.bothCritical fitness.programFits fitness.itemFits fitness.placeFits fitness.lengthFits
     fitness.placesFit fitness.lemmaFits fitness.lemmasFit fitness.fit
 claim = (refl, refl)

@@ -22,8 +22,8 @@ use Rattle.job.specs.declared.Action.the-variants.{Maybe, Critical, Assi
 use Rattle.job.specs.Limits.{maxSteps, maxLemmas, maxNames, maxBound}
 use Rattle.job.specs.Literals.{Clause}
 use Rattle.job.specs.Table.{Process, w, process, action, actionOf, firstOf, firstStep, itemOf, lemma}
-use Rattle.job.specs.Fitness.{larger, hasVariable, isStep, otherFits, variableFits, usedStep, unusedStep, mentioned}
-use Rattle.job.specs.Fitness.{stepFits, stepsFit, bothStart, programFits, itemFits, placeFits, lengthFits, placesFit, lemmaFits, lemmasFit, fit}
+use Rattle.job.specs.Fitness.{larger, hasVariable, isStep, otherFits, variableFits, usedStep, unusedStep, mentioned, stepFits}
+use Rattle.job.specs.Fitness.{stepsFit, bothStart, programFits, itemFits, placeFits, lengthFits, placesFit, lemmaFits, lemmasFit, fit}
 use Rattle.job.specs.InRange.{Below}
 use Rattle.job.proofs.Good.{Leads, Stays, Good}
 
