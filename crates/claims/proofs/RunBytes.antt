@@ -24,18 +24,11 @@ use Rattle.job.specs.Meaning.{State, Run, pc, bit, nowhere, stateAt, turnAt, ho
 use Rattle.job.specs.ReadOff.{byte, turnByte, group, groupLength, runBytes}
 use Rattle.job.specs.RunToValues.{groupByte, stateOf, runOf, bytesFit, runFault}
 use Rattle.job.proofs.MeaningLaws.{state-path, IsRun}
+use Rattle.job.proofs.ValueLaws.{value-byte, small-byte}
 use Rattle.readoff.specs.ReadingOff.{runLength}
 use Rattle.values.proofs.RunLaws.{state-at, turn-at}
 
--- ---- a bit and its byte
-
-bit-back : (b : Bool) → eqb (byte b) 1 ≡ b
-bit-back true = refl
-bit-back false = refl
-
-bit-small : (b : Bool) → byte b ≤ 1
-bit-small true = omega arith
-bit-small false = omega arith
+-- ---- a byte and its bit
 
 byte-back : (x : ℕ) → x ≤ 1 → byte (eqb x 1) ≡ x
 byte-back x h = go (split (eqb x 1))
@@ -150,7 +143,7 @@ module _ (J : Job) (R : Run) (run : IsRun J R) (rest : List ℕ) where
             let k : x < n P = rw long at h in
             getD-tab (n P) (λ x. eqb (groupByte P bs t (2 + x)) 1) x false k
             ∙ ap (λ b. eqb b 1) (byte-bit x k)
-            ∙ bit-back (bit (stateAt R t) x)
+            ∙ value-byte (bit (stateAt R t) x)
 
     turn-read : t < r P → eqb (groupByte P bs t (2 + n P)) 1 ≡ turnAt R t
     unfolding turnByte
@@ -166,7 +159,7 @@ module _ (J : Job) (R : Run) (run : IsRun J R) (rest : List ℕ) where
           (
             rw byte-b (within-is 1 (m P) (suc (stateAt R t .b)) (omega arith) b),
             (
-              all-of _ (n P) (λ x h. rw (byte-bit x h) (le-leb (byte (bit (stateAt R t) x)) 1 (bit-small (bit (stateAt R t) x)))),
+              all-of _ (n P) (λ x h. rw (byte-bit x h) (le-leb (byte (bit (stateAt R t) x)) 1 (small-byte (bit (stateAt R t) x)))),
               (last (decLt t (r P)), tt),
             ),
           ),
