@@ -2,19 +2,11 @@
 ghost use mathlib.Core.Path.{_≡_};
 ghost use mathlib.Core.Bool.{_&&_, not};
 ghost use Prim.Native.Nat.{_≤_};
-ghost use Rattle.lists.specs.Rows.{num};
 ghost use Rattle.job.specs.Limits.{maxSteps};
 ghost use Rattle.job.specs.Table.{firstOf};
 ghost use Rattle.job.specs.Fitness.{bothStart, bothCritical};
 use job::Job;
 use job::Program;
-
-// Byte i, 0 past the end.
-fn byte_at(bs: &[u8], i: usize) -> u8
-    ensures { λ r. ⌜ r ≡ num (now (bs .entry)) i ⌝ }
-{
-    if i < bs.len() { bs[i] } else { 0 }
-}
 
 // The first step of a process, by its code, or the number of steps.
 pub fn first_of(p: Program, process: u8) -> usize
@@ -23,7 +15,7 @@ pub fn first_of(p: Program, process: u8) -> usize
     let m = p.steps;
     let mut c: usize = 0;
     while c < m {
-        if byte_at(&p.process, c) == process {
+        if scan::byte_at(&p.process, c) == process {
             return c;
         }
         c += 1;

@@ -9,7 +9,6 @@ use native.Mathlib.Decide.{ℕ-discrete}
 use borrow.Author.Tests.{lt-ltb, le-ltb}
 use lib.Dec.{eqb, leb, ltb}
 use Rattle.lists.specs.Rows.{num}
-use Rattle.lists.specs.Places.{first}
 use Rattle.job.specs.Table.{firstOf}
 use Rattle.job.specs.Words.{start}
 use Rattle.job.specs.Fitness.{hasOther, bothCritical}
@@ -159,25 +158,23 @@ module _ (d : Draft) (n : ℕ) (l l′ : Linked) (e : l ≡ l′) where
 
 -- ---- 99, 98, and the rest
 
-module _ (d : Draft) (n a b : ℕ) (p : a ≡ first (d .program .steps) λ c. eqb (num (d .program .process) c) 1)
-    (q : b ≡ first (d .program .steps) λ c. eqb (num (d .program .process) c) 2) where
+module _ (d : Draft) (n a b : ℕ) (p : a ≡ firstOf (d .program) 1) (q : b ≡ firstOf (d .program) 2) where
   pub critical-is : (leb start (d .program .word) && (eqb (num (d .program .kind) a) 2 && eqb (num (d .program .kind) b) 2))
       ≡ bothCritical (d .program)
-  unfolding bothCritical firstOf
+  unfolding bothCritical
   critical-is = rw (p, q)
 
   pub at-98 : a < d .program .steps → d .program .steps ≤ b → refuse 98 n ≡ atLemmas d n
-  unfolding atLemmas firstOf
+  unfolding atLemmas
   at-98 h k = rw (← p, ← q, lt-ltb a (d .program .steps) h, le-ltb b (d .program .steps) k)
 
   pub at-on : a < d .program .steps → b < d .program .steps
       → started d n (link d (d .program .steps) .verdict) (link d (d .program .steps) .program) ≡ atLemmas d n
-  unfolding atLemmas firstOf
+  unfolding atLemmas
   at-on h k = rw (← p, ← q, lt-ltb a (d .program .steps) h, lt-ltb b (d .program .steps) k)
 
-pub at-99 : (d : Draft) (n a : ℕ) → (a ≡ first (d .program .steps) λ c. eqb (num (d .program .process) c) 1) → d .program .steps ≤ a
-    → refuse 99 n ≡ atLemmas d n
-unfolding atLemmas firstOf
+pub at-99 : (d : Draft) (n a : ℕ) → a ≡ firstOf (d .program) 1 → d .program .steps ≤ a → refuse 99 n ≡ atLemmas d n
+unfolding atLemmas
 at-99 d n a p h = rw (← p, le-ltb a (d .program .steps) h)
 
 -- ---- linking changes labels only

@@ -7,7 +7,6 @@ ghost use lib.Dec.{eqb, leb};
 ghost use lib.ListN.{length, drop};
 ghost use lib.Seq.{slice};
 ghost use Rattle.lists.specs.Rows.{num};
-ghost use Rattle.lists.specs.Places.{first};
 ghost use Rattle.job.specs.Limits.{maxSteps, maxLemmas, maxNames, maxText};
 ghost use Rattle.job.specs.Words.{start as startWord};
 ghost use Rattle.scan.specs.Lines.{row, lines};
@@ -223,21 +222,6 @@ fn link(d: Draft) -> Linked
     }
 }
 
-// The first step of a process, or m.
-fn first_of(process: &[u8; Job::STEPS], m: usize, p: u8) -> usize
-    requires { ⌜ m ≤ maxSteps ⌝ }
-    ensures { λ r. ⌜ r ≡ first m (λ c. eqb (num (now (process .entry)) c) p) ⌝ }
-{
-    let mut i: usize = 0;
-    while i < m {
-        if process[i] == p {
-            return i;
-        }
-        i += 1;
-    }
-    m
-}
-
 // Both first steps critical, which only a word forbids.
 fn both_critical(word: u8, kind: &[u8; Job::STEPS], a: usize, b: usize) -> bool
     requires { ⌜ (a < maxSteps) × (b < maxSteps) ⌝ }
@@ -256,11 +240,11 @@ fn at_lemmas(d: Draft, n: usize) -> Reading
 {
     let own = d.program;
     let m = own.steps;
-    let a = first_of(&own.process, m, 1);
+    let a = fit::first_of(own, 1);
     if m <= a {
         return refused(Reading::NO_STEP_OF_A, n);
     }
-    let b = first_of(&own.process, m, 2);
+    let b = fit::first_of(own, 2);
     if m <= b {
         return refused(Reading::NO_STEP_OF_B, n);
     }

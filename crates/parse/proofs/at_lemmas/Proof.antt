@@ -15,9 +15,9 @@ refused-requires c κs = search needs
 
 returns : tie.Need-returns
 returns c =
-    let args′ = c .before .before .before .before .before .before .args in
-    let first-of′ = c .before .before .first-of in
-    c .refused .ensures ∙ at-99 (args′ .d) (args′ .n) (first-of′ .result) (first-of′ .ensures) (c .before .if1 .taken)
+    let s = c .before .before .before .before .args in
+    let a = c .before .before .first-of in
+    c .refused .ensures ∙ at-99 (s .d) (s .n) (a .result) (a .ensures) (c .before .if1 .taken)
 
 first-of-requires-2 : tie.Need-first-of-requires-2
 first-of-requires-2 c κs = search needs
@@ -27,13 +27,12 @@ refused-requires-2 c κs = search needs
 
 returns-2 : tie.Need-returns-2
 returns-2 c =
-    let args′ = c .before .before .before .before .before .before .before .before .before .before .args in
-    let first-of′ = c .before .before .before .before .before .before .first-of in
-    let if1′ = c .before .before .before .before .before .if1 in
-    let first-of2′ = c .before .before .first-of2 in
+    let first-a = c .before .before .before in
+    let s = first-a .before .before .before .args in
+    let a = first-a .before .first-of in
+    let b = c .before .before .first-of2 in
     c .refused2 .ensures
-    ∙ at-98 (args′ .d) (args′ .n) (first-of′ .result) (first-of2′ .result) (first-of′ .ensures) (first-of2′ .ensures) (if1′ .left)
-    (c .before .if2 .taken)
+    ∙ at-98 (s .d) (s .n) (a .result) (b .result) (a .ensures) (b .ensures) (first-a .if1 .left) (c .before .if2 .taken)
 
 link-requires : tie.Need-link-requires
 link-requires c κs = search needs
@@ -49,17 +48,16 @@ denied-requires c κs = search needs
 
 returns-3 : tie.Need-returns-3
 returns-3 c =
-    let args′ = c .before .before .before .before .before .before .before .before .before .before .before .before .before .args in
-    let first-of′ = c .before .before .before .before .before .before .before .before .before .first-of in
-    let if1′ = c .before .before .before .before .before .before .before .before .if1 in
-    let first-of2′ = c .before .before .before .before .before .first-of2 in
-    let if2′ = c .before .before .before .before .if2 in
-    let link′ = c .before .before .before .link in
-    let enum-told2′ = c .before .enum-told2 in
-    let d = args′ .d in
+    let first-b = c .before .before .before .before in
+    let first-a = first-b .before .before in
+    let s = first-a .before .before .before .args in
+    let a = first-a .before .first-of in
+    let b = first-b .before .first-of2 in
+    let linked = c .before .before .before .link in
+    let told = c .before .enum-told2 .given in
     c .denied .ensures
-    ∙ start-no d (args′ .n) (link′ .result) _ (link′ .ensures) (enum-told2′ .given .0 .0) (enum-told2′ .given .1)
-    ∙ at-on d (args′ .n) (first-of′ .result) (first-of2′ .result) (first-of′ .ensures) (first-of2′ .ensures) (if1′ .left) (if2′ .left)
+    ∙ start-no (s .d) (s .n) (linked .result) _ (linked .ensures) (told .0 .0) (told .1)
+    ∙ at-on (s .d) (s .n) (a .result) (b .result) (a .ensures) (b .ensures) (first-a .if1 .left) (first-b .if2 .left)
 
 both-critical-requires : tie.Need-both-critical-requires
 both-critical-requires c κs = search needs
@@ -69,44 +67,36 @@ refused-requires-3 c κs = search needs
 
 returns-4 : tie.Need-returns-4
 returns-4 c =
-    let args′ =
-    c .before .before .before .before .before .before .before .before .before .before .before .before .before .before .before .before
-    .before .args in
-    let first-of′ = c .before .before .before .before .before .before .before .before .before .before .before .before .before .first-of in
-    let if1′ = c .before .before .before .before .before .before .before .before .before .before .before .before .if1 in
-    let first-of2′ = c .before .before .before .before .before .before .before .before .before .first-of2 in
-    let if2′ = c .before .before .before .before .before .before .before .before .if2 in
-    let link′ = c .before .before .before .before .before .before .before .link in
-    let enum-told′ = c .before .before .before .before .before .enum-told in
-    let both-critical′ = c .before .before .both-critical in
-    let d = args′ .d in
-    let critical = critical-is d (args′ .n) (first-of′ .result) (first-of2′ .result) (first-of′ .ensures) (first-of2′ .ensures) in
+    let accepted = c .before .before .before .before .before in
+    let first-b = accepted .before .before .before in
+    let first-a = first-b .before .before in
+    let s = first-a .before .before .before .args in
+    let a = first-a .before .first-of in
+    let b = first-b .before .first-of2 in
+    let linked = accepted .before .before .link in
+    let critical = critical-is (s .d) (s .n) (a .result) (b .result) (a .ensures) (b .ensures) in
     c .refused3 .ensures
-    ∙ start-critical d (args′ .n) (link′ .result) _ (link′ .ensures) (enum-told′ .given .1)
-    (sym critical ∙ sym (both-critical′ .ensures) ∙ c .before .if3 .taken)
-    ∙ at-on d (args′ .n) (first-of′ .result) (first-of2′ .result) (first-of′ .ensures) (first-of2′ .ensures) (if1′ .left) (if2′ .left)
+    ∙ start-critical (s .d) (s .n) (linked .result) _ (linked .ensures) (accepted .enum-told .given .1)
+    (sym critical ∙ sym (c .before .before .both-critical .ensures) ∙ c .before .if3 .taken)
+    ∙ at-on (s .d) (s .n) (a .result) (b .result) (a .ensures) (b .ensures) (first-a .if1 .left) (first-b .if2 .left)
 
 without-lemmas-requires : tie.Need-without-lemmas-requires
 without-lemmas-requires c κs = search needs
 
 returns-5 : tie.Need-returns-5
 returns-5 c =
-    let args′ =
-    c .before .before .before .before .before .before .before .before .before .before .before .before .before .before .before .before
-    .before .args in
-    let first-of′ = c .before .before .before .before .before .before .before .before .before .before .before .before .before .first-of in
-    let if1′ = c .before .before .before .before .before .before .before .before .before .before .before .before .if1 in
-    let first-of2′ = c .before .before .before .before .before .before .before .before .before .first-of2 in
-    let if2′ = c .before .before .before .before .before .before .before .before .if2 in
-    let link′ = c .before .before .before .before .before .before .before .link in
-    let enum-told′ = c .before .before .before .before .before .enum-told in
-    let both-critical′ = c .before .before .both-critical in
-    let d = args′ .d in
-    let critical = critical-is d (args′ .n) (first-of′ .result) (first-of2′ .result) (first-of′ .ensures) (first-of2′ .ensures) in
+    let accepted = c .before .before .before .before .before in
+    let first-b = accepted .before .before .before in
+    let first-a = first-b .before .before in
+    let s = first-a .before .before .before .args in
+    let a = first-a .before .first-of in
+    let b = first-b .before .first-of2 in
+    let linked = accepted .before .before .link in
+    let critical = critical-is (s .d) (s .n) (a .result) (b .result) (a .ensures) (b .ensures) in
     ap (λ (j : Job). accept j) (c .without-lemmas .ensures)
-    ∙ start-on d (args′ .n) (link′ .result) _ (link′ .ensures) (enum-told′ .given .1)
-    (sym critical ∙ sym (both-critical′ .ensures) ∙ c .before .if3 .left)
-    ∙ at-on d (args′ .n) (first-of′ .result) (first-of2′ .result) (first-of′ .ensures) (first-of2′ .ensures) (if1′ .left) (if2′ .left)
+    ∙ start-on (s .d) (s .n) (linked .result) _ (linked .ensures) (accepted .enum-told .given .1)
+    (sym critical ∙ sym (c .before .before .both-critical .ensures) ∙ c .before .if3 .left)
+    ∙ at-on (s .d) (s .n) (a .result) (b .result) (a .ensures) (b .ensures) (first-a .if1 .left) (first-b .if2 .left)
 
 pub at-lemmas-spec : {M : Type 1} → statement M
 at-lemmas-spec =
