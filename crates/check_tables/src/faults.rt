@@ -1,7 +1,7 @@
 // One place of a table changed.
 use job::Job;
 
-#[derive(Drop)]
+#[derive(Clone, Copy)]
 pub enum Place {
     Bound,
     Steps,

@@ -1,4 +1,6 @@
 // Fitness and totals of tables made by hand: one line a table, to be compared with document 01.
+#![tactic(auto)]
+
 mod tables; // tables.rt: the tables that fit
 mod faults; // faults.rt: a table with one place changed
 

@@ -1,4 +1,6 @@
 // The field readers, each lent the line and handed a cursor by value: `lent` has them lent the cursor.
+#![tactic(auto)]
+
 ghost use Rattle.std.specs.Prelude.{◌≡◌, ◌-◌, ◌≤◌, length, drop};
 ghost use Rattle.std.proofs.Math.Seq.{slice};
 ghost use Rattle.lists.specs.Pieces.{is};
@@ -10,7 +12,7 @@ ghost use Rattle.fields.specs.Fields.{is_word as wordOfLine1, bound_end_field};
 ghost use Rattle.scan.specs.Lines.{row};
 
 // A place in a text: the line's number, and a column of the line.
-#[derive(Drop)]
+#[derive(Clone, Copy)]
 pub struct Cursor {
     pub line: usize,
     pub column: usize,
@@ -22,7 +24,7 @@ impl Cursor {
 }
 
 // A field's answer: read, or a number of document 01.
-#[derive(Drop)]
+#[derive(Clone, Copy)]
 pub enum Field {
     Read,
     No(u8),
@@ -68,7 +70,7 @@ impl Field {
 }
 
 // A field's answer, and the cursor: moved on, or where it was.
-#[derive(Drop)]
+#[derive(Clone, Copy)]
 pub struct Moved {
     pub field: Field,
     pub at: Cursor,

@@ -1,4 +1,6 @@
 // Filing a job for a caller in C: the tests hold it to a second filer.
+#![tactic(auto)]
+
 ghost use Rattle.std.specs.Prelude.{◌≡◌};
 ghost use Rattle.filing.specs.Filing.{filing};
 ghost use Rattle.file_ffi.specs.Foreign.{in_c};
@@ -7,7 +9,7 @@ use filing::Filed;
 
 // The answer as C lays it out: the form's length, or the number and place of a refusal; what does not apply is 0.
 #[repr(C)]
-#[derive(Drop)]
+#[derive(Clone, Copy)]
 pub struct Answer {
     pub accepted: bool,
     pub number: u8,

@@ -1,4 +1,6 @@
 // A job on standard input; its filing form on standard output (document 02, S-1), or the refusal alone.
+#![tactic(auto)]
+
 use job::Job;
 use libc::{STDIN_FILENO, STDOUT_FILENO};
 use outputs::file::file;

@@ -1,4 +1,6 @@
 // Writing a job in its filing form (document 02, S-1).
+#![tactic(auto)]
+
 mod keys; // keys.rt: a lemma's names as keys
 mod sorting; // sorting.rt: the names of each lemma in order, at its place
 mod rows; // rows.rt: the next lemma in order
@@ -21,7 +23,7 @@ use put::put_part;
 use sorting::file_rows;
 
 // The length of the filing form, or a refusal.
-#[derive(Drop)]
+#[derive(Clone, Copy)]
 pub enum Filed {
     Length(usize),
     Refused(Refusal),
@@ -33,7 +35,7 @@ impl Filed {
 }
 
 // A lemma's place among the table's items, and how many names it has.
-#[derive(Drop)]
+#[derive(Clone, Copy)]
 struct Row {
     at: usize,
     len: usize,

@@ -1,4 +1,6 @@
 // 45: whether a table is that of a job (document 01, 'Calls and buffers', Reading).
+#![tactic(auto)]
+
 mod range; // range.rt: the tests that steps and lemmas share
 mod steps; // steps.rt: the steps, one by one, and the variables they mention
 mod starts; // starts.rt: a process's first step; 98, 99 and 55

@@ -1,4 +1,6 @@
 // The checker, reading off and run to values for a caller in C: the tests hold them to second ones.
+#![tactic(auto)]
+
 ghost use Rattle.std.specs.Prelude.{◌≡◌};
 ghost use Rattle.reply.specs.Check.{checked};
 ghost use Rattle.readoff.specs.Answers.{answer_of};
@@ -12,7 +14,7 @@ use reply::Checked;
 
 // A job's table without its names, as C lays it out.
 #[repr(C)]
-#[derive(Drop)]
+#[derive(Clone, Copy)]
 pub struct Table {
     pub bound: usize,
     pub word: u8,
@@ -31,7 +33,7 @@ pub struct Table {
 
 // Acceptance, with number and place 0, or the number and place of a refusal.
 #[repr(C)]
-#[derive(Drop)]
+#[derive(Clone, Copy)]
 pub struct Answer {
     pub accepted: bool,
     pub number: u8,

@@ -18,7 +18,7 @@ use Rattle.order.specs.Sorting.{In}
 use Rattle.job.specs.Limits.{max_lemmas, max_names}
 use Rattle.job.specs.declared.Job.{Job}
 use Rattle.job.specs.Literals.{Clause}
-use Rattle.job.specs.Table.{lemma as lemmaAt, item_of as literal}
+use Rattle.job.specs.Table.{lemma as lemma_at, item_of as literal}
 use Rattle.scan.specs.Lines.{Row}
 use Rattle.fields.specs.Fields.{whole_line}
 use Rattle.fields.specs.declared.Field.{Field}
@@ -276,15 +276,15 @@ module _ (J : Job) (S : Sized J) (l : Row) (room : J.lemmas < max_lemmas) (few :
       size k h (no e) = omega (arith, length_kept k (omega arith), S.short k (omega arith))
 
   -- a lemma before it is as it was
-  lemma_kept : (k : ℕ) → k < J.lemmas → lemmaAt after k ≡ lemmaAt J k
-  unfolding lemmaAt
+  lemma_kept : (k : ℕ) → k < J.lemmas → lemma_at after k ≡ lemma_at J k
+  unfolding lemma_at
   lemma_kept k h =
       ap (λ c. tab c (λ i. literal (get_or after.items (k * max_names + i) (pos 0)))) (length_kept k h)
       ∙ tab_same (num J.lengths k) _ _
       (λ i b. ap literal (words_before (value J) (J.lemmas * max_names + 0) ws J.items (k * max_names + i) (omega (arith, S.short k h))))
 
-  lemma_new : lemmaAt after J.lemmas ≡ literals J l
-  unfolding lemmaAt
+  lemma_new : lemma_at after J.lemmas ≡ literals J l
+  unfolding lemma_at
   lemma_new =
       ap (λ c. tab c (λ i. literal (get_or after.items (J.lemmas * max_names + i) (pos 0)))) length_new
       ∙ tab_same (length ws) _ _ (λ i b. let e : J.lemmas * max_names + i ≡ J.lemmas * max_names + 0 + i = omega arith in ap (λ p. literal (get_or after.items p (pos 0))) e)
@@ -293,8 +293,8 @@ module _ (J : Job) (S : Sized J) (l : Row) (room : J.lemmas < max_lemmas) (few :
   line_adds : lemmas_of after ≡ lemmas_of J ++ (literals J l ∷ [])
   unfolding each
   line_adds =
-      ap (λ n. tab n (lemmaAt after)) (add-one J.lemmas)
-      ∙ ap (λ x. x ++ (lemmaAt after J.lemmas ∷ [])) (tab_same J.lemmas _ _ lemma_kept)
+      ap (λ n. tab n (lemma_at after)) (add-one J.lemmas)
+      ∙ ap (λ x. x ++ (lemma_at after J.lemmas ∷ [])) (tab_same J.lemmas _ _ lemma_kept)
       ∙ ap (λ c. lemmas_of J ++ (c ∷ [])) lemma_new
 
 -- the lemmas of a table after sound lines

@@ -28,7 +28,7 @@ use Rattle.lines.specs.declared.StepLine.TheVariants.{Line}
 use Rattle.program.specs.declared.Draft.{Draft}
 use Rattle.parse.specs.Answers.{without_lemmas, accept}
 use Rattle.parse.specs.Labels.{aim, linked, enter_to, enter_other, then_link, pick_linked, link_step, link, started, at_lemmas}
-use Rattle.parse.specs.Labels.{on as onLinked}
+use Rattle.parse.specs.Labels.{on as on_linked}
 use Rattle.parse.proofs.AnswerLaws.{holds_of}
 use Rattle.parse.proofs.LabelLaws.{started_holds}
 use Rattle.parse.specs.declared.Verdict.{Verdict}
@@ -183,16 +183,16 @@ denied : {A : Type 0} (r : Refusal) → Denied r ≡ Accepted → A
 denied r e = absurd (subst is_accepted (sym e) tt)
 
 then_link_lem : (l : Linked) (rest : Program → Linked) → (then_link l rest).verdict ≡ Accepted → (l.verdict ≡ Accepted) × (then_link l rest ≡ rest l.program)
-unfolding onLinked
+unfolding on_linked
 then_link_lem l rest h = go l.verdict l.program h
   where
-    go : (v : Verdict) (P : Program) → (onLinked v P rest).verdict ≡ Accepted → (v ≡ Accepted) × (onLinked v P rest ≡ rest P)
+    go : (v : Verdict) (P : Program) → (on_linked v P rest).verdict ≡ Accepted → (v ≡ Accepted) × (on_linked v P rest ≡ rest P)
     go Accepted P h = (refl, refl)
     go (Denied r) P h = denied r h
 
 link_on : (l : Linked) (rest : Program → Linked) → l.verdict ≡ Accepted → then_link l rest ≡ rest l.program
-unfolding onLinked
-link_on l rest h = ap (λ v. onLinked v l.program rest) h
+unfolding on_linked
+link_on l rest h = ap (λ v. on_linked v l.program rest) h
 
 then_alike : (l k : Linked) (f g : Program → Linked) → (then_link l f).verdict ≡ Accepted → (l.verdict ≡ Accepted → k ≡ l)
     → ((P : Program) → (f P).verdict ≡ Accepted → g P ≡ f P) → then_link k g ≡ then_link l f

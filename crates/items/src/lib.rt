@@ -1,5 +1,7 @@
 // A name of a lemma as a field: it goes from the cursor to the next space or the line's end, and the cursor moves on to there.
 // The reader that is handed the cursor comes first, then the one that is lent it, and above that one with a line and a column.
+#![tactic(auto)]
+
 ghost use Rattle.std.specs.Prelude.{◌≡◌, ◌-◌, ◌≤◌, length};
 ghost use Rattle.std.proofs.Math.Seq.{slice};
 ghost use Rattle.items.specs.Items.{known_in, item_field};
@@ -9,14 +11,14 @@ use job::Job;
 use scan::Found;
 
 // What a name of a lemma names: an item, counted from 1, or nothing of this job.
-#[derive(Drop)]
+#[derive(Clone, Copy)]
 pub enum Named {
     Item(usize),
     Unknown,
 }
 
 // That answer, and the cursor behind the name.
-#[derive(Drop)]
+#[derive(Clone, Copy)]
 pub struct Name {
     pub named: Named,
     pub at: Cursor,

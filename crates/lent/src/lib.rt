@@ -1,6 +1,8 @@
 // The field readers as document 01 has them, 'Every field reader is lent the line and column count and moves it on': each is
 // that of `fields`, which takes the cursor by value, lent the cursor. Above each stands one that makes the cursor of a line
 // and a column, so that whoever calls it lends none.
+#![tactic(auto)]
+
 ghost use Rattle.std.specs.Prelude.{◌≡◌};
 ghost use Rattle.fields.specs.Fields.{name_field, space_field, variable_field, equals_field, bit_field, goto_field, to_field};
 ghost use Rattle.fields.specs.Fields.{else_field, other_field, step_end_field, bound_field, range_field, bound_end_field};

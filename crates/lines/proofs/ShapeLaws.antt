@@ -16,7 +16,7 @@ use Rattle.scan.specs.declared.Found.{Found}
 use Rattle.scan.specs.declared.Found.TheVariants.{At, Nothing}
 use Rattle.fields.specs.Fields.{pick_field, went, refuse, digit, range_field, start_word, crash_word}
 use Rattle.lines.specs.FirstLine.{value_of, number_at, word_of, first_line}
-use Rattle.lines.specs.FirstLine.{then as thenFirst, after as afterFirst}
+use Rattle.lines.specs.FirstLine.{then as then_first, after as after_first}
 use Rattle.lines.specs.StepLine.{then, after, pick, fresh, begun, bit_of, else_line, end_line}
 use Rattle.lines.specs.StepLine.{goto_line, test_line, kind_line, step_line, on, maybe_word, critical_word, if_word}
 use Rattle.fields.specs.declared.Cursor.{Cursor}
@@ -38,11 +38,11 @@ abbrev Ranged : FirstLine → Type 0
 Ranged (Bound r word) = (within 1 max_bound r ≡ true) × (leb word crash ≡ true)
 Ranged (WrongLine n) = Unit {0}
 
-after_ranged : (m : Moved) (rest : Cursor → FirstLine) → (m.field ≡ Read → Ranged (rest m.at)) → Ranged (afterFirst m rest)
-unfolding thenFirst
+after_ranged : (m : Moved) (rest : Cursor → FirstLine) → (m.field ≡ Read → Ranged (rest m.at)) → Ranged (after_first m rest)
+unfolding then_first
 after_ranged m rest h = go m.field h
   where
-    go : (f : Field) → (f ≡ Read → Ranged (rest m.at)) → Ranged (thenFirst f m.at rest)
+    go : (f : Field) → (f ≡ Read → Ranged (rest m.at)) → Ranged (then_first f m.at rest)
     go Read k = k refl
     go (No n) k = tt
 

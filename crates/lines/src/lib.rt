@@ -1,4 +1,6 @@
 // Line 1 and the step line (document 01, 'The job text'), read field by field from left to right.
+#![tactic(auto)]
+
 ghost use Rattle.std.specs.Prelude.{◌≡◌, ◌<◌, length, drop};
 ghost use Rattle.lines.specs.FirstLine.{value_of, number_at, word_of, first_line};
 ghost use Rattle.lines.specs.StepLine.{begun as begunStep, bit_of, else_line, end_line, goto_line, test_line, kind_line, step_line};
@@ -8,14 +10,14 @@ use job::Job;
 use scan::Found;
 
 // What line 1 says: R, and the word's code.
-#[derive(Drop)]
+#[derive(Clone, Copy)]
 pub enum FirstLine {
     Bound(usize, u8),
     Refused(u8),
 }
 
 // What a step line says: its kind, where its name ends, V's columns, v, L's columns, and where M starts.
-#[derive(Drop)]
+#[derive(Clone, Copy)]
 pub struct Step {
     pub kind: u8,
     pub name: usize,
@@ -27,7 +29,7 @@ pub struct Step {
     pub other: usize,
 }
 
-#[derive(Drop)]
+#[derive(Clone, Copy)]
 pub enum StepLine {
     Line(Step),
     Refused(u8),

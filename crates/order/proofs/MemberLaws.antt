@@ -16,6 +16,7 @@ same_swap s = record { there = s.back; back = s.there }
 module _ {T : Type 0} (f : T → Bool) where
   pub in_keep : (z : T) (xs : List T) → In z (keep f xs) → In z xs × (f z ≡ true)
   unfolding keep
+  in_keep z [] h = elim h [ ]
   in_keep z (x ∷ xs) h = go (f x) refl h (in_keep z xs)
     where
       go : (b : Bool) → f x ≡ b → In z (cond b (x ∷ keep f xs) (keep f xs)) → (In z (keep f xs) → In z xs × (f z ≡ true))
@@ -26,6 +27,7 @@ module _ {T : Type 0} (f : T → Bool) where
 
   pub keep_in : (z : T) (xs : List T) → In z xs → f z ≡ true → In z (keep f xs)
   unfolding keep
+  keep_in z [] h k = elim h [ ]
   keep_in z (x ∷ xs) h k = go (f x) refl h (λ i. keep_in z xs i k)
     where
       go : (b : Bool) → f x ≡ b → (z ≡ x) ⊎ In z xs → (In z xs → In z (keep f xs)) → In z (cond b (x ∷ keep f xs) (keep f xs))
@@ -36,10 +38,12 @@ module _ {T : Type 0} (f : T → Bool) where
 
 module _ {S T : Type 0} (f : S → T) where
   pub in_map : (z : T) (xs : List S) → In z (map f xs) → (x : S) × In x xs × (z ≡ f x)
+  in_map z [] x' = elim x' [ ]
   in_map z (x ∷ xs) (inl e) = (x, inl refl, e)
   in_map z (x ∷ xs) (inr i) = let (y, j, e) = in_map z xs i in (y, inr j, e)
 
   pub map_in : (x : S) (xs : List S) → In x xs → In (f x) (map f xs)
+  map_in x [] x'' = elim x'' [ ]
   map_in x (y ∷ ys) (inl e) = inl (ap f e)
   map_in x (y ∷ ys) (inr i) = inr (map_in x ys i)
 
@@ -64,6 +68,7 @@ in_append z (x ∷ xs) ys (inr i) = go (in_append z xs ys i)
     go (inr j) = inr j
 
 pub append_left : {T : Type 0} (z : T) (xs ys : List T) → In z xs → In z (xs ++ ys)
+append_left {T = T} z [] ys x' = elim x' [ ]
 append_left z (x ∷ xs) ys (inl e) = inl e
 append_left z (x ∷ xs) ys (inr i) = inr (append_left z xs ys i)
 

@@ -17,7 +17,7 @@ use parse::Verdict;
 use text::{Printed, Texted};
 
 // What is printed first, and its length, with zeros behind it; the table; and how many clauses follow.
-#[derive(Drop)]
+#[derive(Clone, Copy)]
 pub struct Opened {
     pub text: [u8; Opened::TEXT],
     pub length: usize,
@@ -31,7 +31,7 @@ impl Opened {
 }
 
 // The same without the text.
-#[derive(Drop)]
+#[derive(Clone, Copy)]
 struct Begun {
     length: usize,
     job: Job,
@@ -116,7 +116,7 @@ pub fn opening(text: &[u8]) -> Opened
 }
 
 // How many clauses were written, and the bytes of their text.
-#[derive(Drop)]
+#[derive(Clone, Copy)]
 pub struct Piece {
     pub clauses: usize,
     pub length: usize,

@@ -10,7 +10,7 @@ use filing::Filed;
 use job::Job;
 
 // A text and its length, with zeros behind it. A form is never longer than its job.
-#[derive(Drop)]
+#[derive(Clone, Copy)]
 pub struct Form {
     pub text: [u8; Job::TEXT],
     pub length: usize,

@@ -7,7 +7,7 @@ ghost use Rattle.job.specs.Fitness.{fit};
 use job::Job;
 use totals::Count;
 
-#[derive(Drop)]
+#[derive(Clone, Copy)]
 pub(crate) struct Header {
     pub variables: usize,
     pub clauses: usize,

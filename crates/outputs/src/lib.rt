@@ -1,4 +1,6 @@
 // What each program prints, as a function of what it read.
+#![tactic(auto)]
+
 mod line; // line.rt: the line of a refusal
 mod header; // header.rt: the variables and clauses of a fit table
 pub mod dimacs; // dimacs.rt: the first program

@@ -13,7 +13,7 @@ use readoff::Told;
 use reply::Checked;
 
 // A text and its length, with zeros behind it.
-#[derive(Drop)]
+#[derive(Clone, Copy)]
 pub struct Shown {
     pub text: [u8; Shown::TEXT],
     pub length: usize,

@@ -20,15 +20,15 @@ use Rattle.scan.specs.Lines.{rows, lines}
 use Rattle.scan.specs.Names.{entry_is, lookup}
 use Rattle.fields.specs.Fields.{word_field, fixed_field, bit_field, range_field, end_field, bound_end_field, whole_line}
 use Rattle.lines.specs.FirstLine.{first_line, number_at, value_of, word_of}
-use Rattle.lines.specs.FirstLine.{then as thenFirst}
+use Rattle.lines.specs.FirstLine.{then as then_first}
 use Rattle.lines.specs.StepLine.{fresh, bit_of, else_line, end_line, goto_line, test_line, kind_line, step_line}
-use Rattle.lines.specs.StepLine.{then as thenStep}
+use Rattle.lines.specs.StepLine.{then as then_step}
 use Rattle.items.specs.Items.{named_in}
 use Rattle.program.specs.Draft.{blank, mention_at, process_of, other_end, enter, add_step}
 use Rattle.program.specs.ProgramLine.{is_lemmas, is_comment, stepped, program_line}
-use Rattle.program.specs.ProgramLine.{pick as pickLined, whole as wholeProgramLine}
+use Rattle.program.specs.ProgramLine.{pick as pick_lined, whole as whole_program_line}
 use Rattle.program.specs.Program.{follow, program, opened, from_line1, program_of}
-use Rattle.program.specs.Program.{whole as wholeLine1}
+use Rattle.program.specs.Program.{whole as whole_line1}
 use Rattle.parse.specs.Answers.{without_lemmas, by, refusal}
 use Rattle.parse.specs.Labels.{target_of, aim, enter_to, enter_other, on, link_step, link, started, at_lemmas}
 use Rattle.parse.specs.Lemmas.{filled, words, bare, named, lemma, whole, lemma_line, lemma_lines}
@@ -59,9 +59,9 @@ table : let j = (reading (bytes one_bit)).job in
     × (take 9 j.labels ≡ 65 ∷ 48 ∷ 0 ∷ 0 ∷ 66 ∷ 48 ∷ 0 ∷ 0 ∷ 0 ∷ [])
     × (take 5 j.names ≡ 97 ∷ 0 ∷ 0 ∷ 0 ∷ 0 ∷ [])
 unfolding bytes verdict every all within each passing first first_of both_critical cut up_to all_of starts is alnum headed rows lines
-    entry_is lookup word_field fixed_field bit_field range_field end_field bound_end_field whole_line first_line number_at value_of word_of thenFirst
-    fresh bit_of else_line end_line goto_line test_line kind_line step_line thenStep blank mention_at process_of other_end enter add_step is_lemmas
-    is_comment stepped program_line pickLined wholeProgramLine follow program opened from_line1 program_of wholeLine1 without_lemmas by
+    entry_is lookup word_field fixed_field bit_field range_field end_field bound_end_field whole_line first_line number_at value_of word_of then_first
+    fresh bit_of else_line end_line goto_line test_line kind_line step_line then_step blank mention_at process_of other_end enter add_step is_lemmas
+    is_comment stepped program_line pick_lined whole_program_line follow program opened from_line1 program_of whole_line1 without_lemmas by
     target_of aim enter_to enter_other on link_step link started at_lemmas filled words bare named_in named lemma whole lemma_line lemma_lines
     from_lemmas reading
 table = (refl, refl, refl, refl, refl, refl, refl, refl, refl, refl, refl)
@@ -70,9 +70,9 @@ table = (refl, refl, refl, refl, refl, refl, refl, refl, refl, refl, refl)
 items : take 4 (reading (bytes "bound 1\n~ one bit\nA0 a=1 goto A0\nB0 maybe goto B0\nlemmas\n~a  A0 B0\n")).job.items
     ≡ negsuc 2 ∷ pos 1 ∷ pos 2 ∷ pos 0 ∷ []
 unfolding bytes verdict every all within each passing first first_of both_critical cut up_to all_of starts is alnum headed rows lines
-    entry_is lookup word_field fixed_field bit_field range_field end_field bound_end_field whole_line first_line number_at value_of word_of thenFirst
-    fresh bit_of else_line end_line goto_line test_line kind_line step_line thenStep blank mention_at process_of other_end enter add_step is_lemmas
-    is_comment stepped program_line pickLined wholeProgramLine follow program opened from_line1 program_of wholeLine1 without_lemmas by
+    entry_is lookup word_field fixed_field bit_field range_field end_field bound_end_field whole_line first_line number_at value_of word_of then_first
+    fresh bit_of else_line end_line goto_line test_line kind_line step_line then_step blank mention_at process_of other_end enter add_step is_lemmas
+    is_comment stepped program_line pick_lined whole_program_line follow program opened from_line1 program_of whole_line1 without_lemmas by
     target_of aim enter_to enter_other on link_step link started at_lemmas filled words bare named_in named lemma whole lemma_line lemma_lines
     from_lemmas reading
 items = refl
@@ -93,8 +93,8 @@ word_read text = (verdict text, (reading (bytes text)).job.program.word)
 words_told : map (λ (c : String × ℕ). word_read c.0) accepted ≡ map (λ (c : String × ℕ). (Accepted, c.1)) accepted
 unfolding bytes verdict word_read every all within each passing first first_of both_critical cut up_to all_of starts is alnum headed rows
     lines entry_is lookup word_field fixed_field bit_field range_field end_field bound_end_field whole_line first_line number_at value_of word_of
-    thenFirst fresh bit_of else_line end_line goto_line test_line kind_line step_line thenStep blank mention_at process_of other_end enter add_step
-    is_lemmas is_comment stepped program_line pickLined wholeProgramLine follow program opened from_line1 program_of wholeLine1 without_lemmas
+    then_first fresh bit_of else_line end_line goto_line test_line kind_line step_line then_step blank mention_at process_of other_end enter add_step
+    is_lemmas is_comment stepped program_line pick_lined whole_program_line follow program opened from_line1 program_of whole_line1 without_lemmas
     by target_of aim enter_to enter_other on link_step link started at_lemmas filled words bare named_in named lemma whole lemma_line
     lemma_lines from_lemmas reading
 words_told = refl
@@ -147,9 +147,9 @@ refusals =
 
 as_told : map (λ (c : String × Verdict). verdict c.0) refusals ≡ map (λ (c : String × Verdict). c.1) refusals
 unfolding bytes verdict every all within each passing first first_of both_critical cut up_to all_of starts is alnum headed rows lines
-    entry_is lookup word_field fixed_field bit_field range_field end_field bound_end_field whole_line first_line number_at value_of word_of thenFirst
-    fresh bit_of else_line end_line goto_line test_line kind_line step_line thenStep blank mention_at process_of other_end enter add_step is_lemmas
-    is_comment stepped program_line pickLined wholeProgramLine follow program opened from_line1 program_of wholeLine1 without_lemmas by
+    entry_is lookup word_field fixed_field bit_field range_field end_field bound_end_field whole_line first_line number_at value_of word_of then_first
+    fresh bit_of else_line end_line goto_line test_line kind_line step_line then_step blank mention_at process_of other_end enter add_step is_lemmas
+    is_comment stepped program_line pick_lined whole_program_line follow program opened from_line1 program_of whole_line1 without_lemmas by
     target_of aim enter_to enter_other on link_step link started at_lemmas filled words bare named_in named lemma whole lemma_line lemma_lines
     from_lemmas reading
 as_told = refl
@@ -157,9 +157,9 @@ as_told = refl
 -- a 65th name
 too_many : (reading (bytes one_bit ++ (each 65 (λ _. bytes "a ") ++ bytes "\n"))).verdict ≡ refusal 44 6
 unfolding bytes verdict every all within each passing first first_of both_critical cut up_to all_of starts is alnum headed rows lines
-    entry_is lookup word_field fixed_field bit_field range_field end_field bound_end_field whole_line first_line number_at value_of word_of thenFirst
-    fresh bit_of else_line end_line goto_line test_line kind_line step_line thenStep blank mention_at process_of other_end enter add_step is_lemmas
-    is_comment stepped program_line pickLined wholeProgramLine follow program opened from_line1 program_of wholeLine1 without_lemmas by
+    entry_is lookup word_field fixed_field bit_field range_field end_field bound_end_field whole_line first_line number_at value_of word_of then_first
+    fresh bit_of else_line end_line goto_line test_line kind_line step_line then_step blank mention_at process_of other_end enter add_step is_lemmas
+    is_comment stepped program_line pick_lined whole_program_line follow program opened from_line1 program_of whole_line1 without_lemmas by
     target_of aim enter_to enter_other on link_step link started at_lemmas filled words bare named_in named lemma whole lemma_line lemma_lines
     from_lemmas reading
 too_many = refl

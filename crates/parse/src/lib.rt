@@ -1,4 +1,6 @@
 // Reading a job text: its program, the checks at `lemmas`, and its lemmas.
+#![tactic(auto)]
+
 ghost use Rattle.std.specs.Prelude.{◌≡◌, ◌+◌, ◌*◌, ◌<◌, ◌≤◌, cond, ◌&&◌, [], eqb, leb, length, drop};
 ghost use Rattle.std.proofs.Math.Seq.{slice};
 ghost use Rattle.lists.specs.Rows.{num};
@@ -17,14 +19,14 @@ use job::{Job, Program, Refusal};
 use program::{Draft, End};
 use scan::Found;
 
-#[derive(Drop)]
+#[derive(Clone, Copy)]
 pub enum Verdict {
     Accepted,
     Refused(Refusal),
 }
 
 // The answer of reading: a refused job gives the table of zeros.
-#[derive(Drop)]
+#[derive(Clone, Copy)]
 pub struct Reading {
     pub verdict: Verdict,
     pub job: Job,
@@ -52,14 +54,14 @@ impl Reading {
 }
 
 // What a label names: a step, counted from 1, or a number of document 01.
-#[derive(Drop)]
+#[derive(Clone, Copy)]
 pub enum Target {
     Step(usize),
     No(u8),
 }
 
 // A program whose labels are steps so far.
-#[derive(Drop)]
+#[derive(Clone, Copy)]
 pub struct Linked {
     pub verdict: Verdict,
     pub program: Program,

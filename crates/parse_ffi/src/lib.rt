@@ -1,4 +1,6 @@
 // Reading a job for a caller in C: the tests hold it to a second reader.
+#![tactic(auto)]
+
 ghost use Rattle.std.specs.Prelude.{◌≡◌};
 ghost use Rattle.parse.specs.Reading.{read_job};
 ghost use Rattle.parse_ffi.specs.Foreign.{flat as flatOf, in_c};
@@ -8,7 +10,7 @@ use parse::Verdict;
 
 // A reading as C lays it out: acceptance, with number and place 0, or the number and place of a refusal; and the table.
 #[repr(C)]
-#[derive(Drop)]
+#[derive(Clone, Copy)]
 pub struct Answer {
     pub accepted: bool,
     pub number: u8,

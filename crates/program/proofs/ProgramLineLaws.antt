@@ -7,7 +7,7 @@ use borrow.Author.Tests.{leb-false}
 use Rattle.job.specs.Limits.{max_steps}
 use Rattle.scan.specs.Lines.{Row}
 use Rattle.fields.specs.Fields.{whole_line}
-use Rattle.fields.specs.Fields.{number_of as fieldNumber}
+use Rattle.fields.specs.Fields.{number_of as field_number}
 use Rattle.fields.specs.declared.Field.{Field}
 use Rattle.fields.specs.declared.Field.TheVariants.{Read}
 use Rattle.fields.specs.declared.Field.TheVariants.{No as NoField}
@@ -43,10 +43,10 @@ module _ (f f' : Field) (d : Draft) (rest : Lined) (e : f ≡ f') where
   unfolding whole
   is_whole r = ap (λ (x : Field). whole x d rest) (sym r ∙ e)
 
-  pub no_line : (k r : ℕ) → f ≡ NoField k → r ≡ fieldNumber f → lined (No r) d ≡ whole f' d rest
+  pub no_line : (k r : ℕ) → f ≡ NoField k → r ≡ field_number f → lined (No r) d ≡ whole f' d rest
   unfolding whole
   no_line k r g h =
-      ap (λ (x : ℕ). lined (No x) d) (h ∙ ap fieldNumber g) ∙ ap (λ (x : Field). whole x d rest) (sym g ∙ e)
+      ap (λ (x : ℕ). lined (No x) d) (h ∙ ap field_number g) ∙ ap (λ (x : Field). whole x d rest) (sym g ∙ e)
 
 -- ---- what holds of every way out
 

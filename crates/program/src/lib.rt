@@ -1,4 +1,6 @@
 // The program part of a job text: line 1 and the program lines up to `lemmas`, entered into a draft of the table.
+#![tactic(auto)]
+
 ghost use Rattle.std.specs.Prelude.{◌≡◌, ◌+◌, ◌*◌, ◌<◌, ◌≤◌, length, drop};
 ghost use Rattle.std.proofs.Math.Seq.{slice};
 ghost use Rattle.job.specs.Limits.{max_steps, max_text};
@@ -13,7 +15,7 @@ use lines::{FirstLine, Step, StepLine};
 use scan::Found;
 
 // The table while its program is read. Labels L and M stay names, and each step keeps its line, until `lemmas`.
-#[derive(Drop)]
+#[derive(Clone, Copy)]
 pub struct Draft {
     pub program: Program,
     pub labels: [u8; 4 * Job::STEPS],
@@ -33,27 +35,27 @@ impl Draft {
 }
 
 // How the program part ends: with `lemmas`, its line and where the text goes on; or a number and its place.
-#[derive(Drop)]
+#[derive(Clone, Copy)]
 pub enum End {
     Lemmas(usize, usize),
     Refused(u8, usize),
 }
 
-#[derive(Drop)]
+#[derive(Clone, Copy)]
 pub struct Outcome {
     pub end: End,
     pub draft: Draft,
 }
 
 // What a program line leads to.
-#[derive(Drop)]
+#[derive(Clone, Copy)]
 pub enum Next {
     More,
     Lemmas,
     No(u8),
 }
 
-#[derive(Drop)]
+#[derive(Clone, Copy)]
 pub struct Lined {
     pub next: Next,
     pub draft: Draft,

@@ -1,4 +1,6 @@
 // Bytes put into a lent buffer, and the place behind them. Every function is total: what has no room is not put.
+#![tactic(auto)]
+
 ghost use Rattle.std.specs.Prelude.{◌≡◌, [], ◌∷◌, ◌+◌, ◌*◌, ◌≤◌, length};
 ghost use Rattle.put.specs.Names.{name_at};
 ghost use Rattle.put.specs.Put.{placed, put};

@@ -1,6 +1,8 @@
 // 'One reader keeps the reply and its place in it': a function that is lent the reader reads the next line or word and moves the place on
 // to its end. Each is thin, since its proof is by hand: one function with a slice and numbers does the reading. Above each stands one with
 // plain parameters, which makes a reader, lends it and gives the place where it then stands.
+#![tactic(auto)]
+
 ghost use Rattle.std.specs.Prelude.{◌≡◌};
 ghost use Rattle.tokens.specs.Numbers.{word_at};
 ghost use Rattle.reader.specs.Lines.{line_at};
@@ -8,14 +10,14 @@ ghost use Rattle.reader.specs.Lines.{line_at};
 use tokens::{Kind, Token, Word};
 
 // The reply and the place in it.
-#[derive(Drop)]
+#[derive(Clone, Copy)]
 pub struct Reader<'a> {
     pub src: &'a [u8],
     pub at: usize,
 }
 
 // A line's kind, and where it ends: at its LF, or with the text.
-#[derive(Drop)]
+#[derive(Clone, Copy)]
 pub struct Line {
     pub kind: Kind,
     pub end: usize,

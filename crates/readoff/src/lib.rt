@@ -1,4 +1,6 @@
 // Reading off: what values name, as the bytes of a run (document 01, 'Calls and buffers').
+#![tactic(auto)]
+
 mod standing; // standing.rt: where a process stands at a time
 mod test; // test.rt: 67 and its place
 mod bytes; // bytes.rt: the run's bytes, group by group
@@ -17,7 +19,7 @@ use test::fault_at;
 use totals::Count;
 
 // What reading off and run to values answer: the bytes stand in the buffer, or a refusal.
-#[derive(Drop)]
+#[derive(Clone, Copy)]
 pub enum Told {
     Written,
     Refused(Refusal),

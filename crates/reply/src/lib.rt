@@ -1,4 +1,6 @@
 // Checking a reply: its lines and numbers are read by a reader, its values are marked in the working buffer.
+#![tactic(auto)]
+
 ghost use Rattle.std.specs.Prelude.{◌≡◌, true, cond, ◌+◌, ◌≤◌, length, drop};
 ghost use Rattle.std.proofs.Math.Seq.{slice};
 ghost use Rattle.lists.specs.Rows.{num};
@@ -22,7 +24,7 @@ use totals::Count;
 // The longest reply.
 const MOST_BYTES: usize = 16777216;
 
-#[derive(Drop)]
+#[derive(Clone, Copy)]
 pub enum Checked {
     Accepted,
     Refused(Refusal),
@@ -35,7 +37,7 @@ fn refused(number: u8, place: usize) -> Checked
 }
 
 // What a number, or a line of them, came to: the number of a fault, more to come, or closed by the 0.
-#[derive(Drop)]
+#[derive(Clone, Copy)]
 enum Numbers {
     Fault(u8),
     More,
@@ -43,7 +45,7 @@ enum Numbers {
 }
 
 // Where reading stands: the number and line of a fault, or the byte and line that come next.
-#[derive(Drop)]
+#[derive(Clone, Copy)]
 enum Place {
     Halt(u8, usize),
     At(usize, usize),

@@ -1,5 +1,7 @@
 // The first program of document 01: a job on standard input; its comments, header and clauses in DIMACS form on standard output, or the
 // refusal alone. The first write that fails ends it, so that what is out is a beginning of the whole.
+#![tactic(auto)]
+
 ghost use Rattle.std.specs.Prelude.{◌≡◌, true, ◌*◌, ◌<◌, ◌≤◌, length};
 ghost use Rattle.job.specs.Clauses.{clauses};
 ghost use Rattle.job.specs.Fitness.{fit};

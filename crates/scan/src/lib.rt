@@ -1,13 +1,15 @@
 // Bytes, lines, words and the scan for a name. Every function is total: past its end a text has zeros.
+#![tactic(auto)]
+
 ghost use Rattle.std.specs.Prelude.{◌≡◌, ◌+◌, ◌*◌, ◌<◌, length, drop};
 ghost use Rattle.std.proofs.Math.Seq.{slice};
 ghost use Rattle.lists.specs.Rows.{num};
 ghost use Rattle.lists.specs.Pieces.{starts};
-ghost use Rattle.scan.specs.Bytes.{word_at, plain as plainBytes};
+ghost use Rattle.scan.specs.Bytes.{word_at, plain as plain_bytes};
 ghost use Rattle.scan.specs.Names.{lookup};
 
 // Where a name stands among others, counted from 0.
-#[derive(Drop)]
+#[derive(Clone, Copy)]
 pub enum Found {
     At(usize),
     Nothing,
@@ -110,7 +112,7 @@ pub fn follows(s: &[u8], column: usize, w: &[u8]) -> bool
 
 // No byte outside 32 to 126.
 pub fn plain(s: &[u8]) -> bool
-    ensures { result ≡ plainBytes s.now }
+    ensures { result ≡ plain_bytes s.now }
 {
     let mut i: usize = 0;
     while i < s.len() {

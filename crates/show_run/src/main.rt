@@ -1,5 +1,7 @@
 // The second program of document 01: the job of job.txt and a solver's reply in claim.txt (unopened: empty); the run that the reply
 // gives, or the refusal alone, on standard output.
+#![tactic(auto)]
+
 ghost use Rattle.io.specs.Counts.{IsPrefixLen};
 
 use job::Job;

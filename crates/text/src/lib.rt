@@ -1,4 +1,6 @@
 // What the programs print (document 01, 'A job in full'), made in lent buffers.
+#![tactic(auto)]
+
 mod numeral; // numeral.rt: numbers in decimal
 mod told; // told.rt: one number of a clause
 mod sentence; // sentence.rt: a number in a line, and a line of two numbers
@@ -21,14 +23,14 @@ use sentence::put_sentence;
 use told::{put_told, told_length};
 
 // How many whole texts were written, and their bytes.
-#[derive(Drop)]
+#[derive(Clone, Copy)]
 pub struct Texted {
     pub count: usize,
     pub bytes: usize,
 }
 
 // How many bytes were written, or that the buffer is short and as it was.
-#[derive(Drop)]
+#[derive(Clone, Copy)]
 pub enum Printed {
     Bytes(usize),
     Short,

@@ -1,4 +1,6 @@
 // The bytes of a reply: where a line or a word ends, how it begins, and one number. Parts go by a slice and two numbers.
+#![tactic(auto)]
+
 ghost use Rattle.std.specs.Prelude.{◌≡◌, ◌+◌, ◌-◌, ◌<◌, ◌≤◌, length, get_or, take};
 ghost use Rattle.std.proofs.Math.Seq.{slice};
 ghost use Rattle.lists.specs.Pieces.{up_to, starts, is};
@@ -6,7 +8,7 @@ ghost use Rattle.tokens.specs.Kinds.{kind_of};
 ghost use Rattle.tokens.specs.Numbers.{front, decimal, numbered as numberedToken, unsigned as unsignedToken, word_at};
 
 // A word between spaces.
-#[derive(Drop)]
+#[derive(Clone, Copy)]
 pub enum Token {
     // No number of a reply.
     Bad,
@@ -17,7 +19,7 @@ pub enum Token {
 }
 
 // A line by how it begins, or by what it is.
-#[derive(Drop)]
+#[derive(Clone, Copy)]
 pub enum Kind {
     Comment,
     Satisfiable,
@@ -27,7 +29,7 @@ pub enum Kind {
 }
 
 // A word, and where it ends: at a space, or with its line.
-#[derive(Drop)]
+#[derive(Clone, Copy)]
 pub struct Word {
     pub token: Token,
     pub end: usize,
@@ -148,7 +150,7 @@ pub fn kind_at(s: &[u8], from: usize, to: usize) -> Kind
 }
 
 // Where the digits at the front of a part end, and the number that they write.
-#[derive(Drop)]
+#[derive(Clone, Copy)]
 struct Front {
     pub end: usize,
     pub value: usize,
