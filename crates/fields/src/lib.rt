@@ -4,11 +4,11 @@
 ghost use Rattle.std.specs.Prelude.{◌≡◌, ◌-◌, ◌≤◌, length, drop};
 ghost use Rattle.std.proofs.Math.Seq.{slice};
 ghost use Rattle.lists.specs.Pieces.{is};
-ghost use Rattle.scan.specs.Bytes.{alnum as isAlnum, all_of, headed};
+ghost use Rattle.scan.specs.Bytes.{alnum as is_alnum, all_of, headed};
 ghost use Rattle.fields.specs.Fields.{number_of, word_field, name_field, variable_field, to_field, other_field};
 ghost use Rattle.fields.specs.Fields.{fixed_field, space_field, equals_field, goto_field, else_field, bound_field};
-ghost use Rattle.fields.specs.Fields.{digit as isDigit, bit_field, range_field, end_field, step_end_field, whole_line};
-ghost use Rattle.fields.specs.Fields.{is_word as wordOfLine1, bound_end_field};
+ghost use Rattle.fields.specs.Fields.{digit as is_digit, bit_field, range_field, end_field, step_end_field, whole_line};
+ghost use Rattle.fields.specs.Fields.{is_word as word_of_line1, bound_end_field};
 ghost use Rattle.scan.specs.Lines.{row};
 
 // A place in a text: the line's number, and a column of the line.
@@ -77,7 +77,7 @@ pub struct Moved {
 }
 
 fn alnum(b: u8) -> bool
-    ensures { result ≡ isAlnum b }
+    ensures { result ≡ is_alnum b }
 {
     if b < b'0' {
         return false;
@@ -99,7 +99,7 @@ fn alnum(b: u8) -> bool
 
 fn all_alnum(s: &[u8], from: usize, to: usize) -> bool
     requires { to ≤ length s.now }
-    ensures { result ≡ all_of isAlnum (slice from to s.now) }
+    ensures { result ≡ all_of is_alnum (slice from to s.now) }
 {
     let mut i = from;
     while i < to {
@@ -312,7 +312,7 @@ pub fn range(s: &[u8], at: Cursor) -> Moved
 }
 
 pub fn is_digit(b: u8) -> bool
-    ensures { result ≡ isDigit b }
+    ensures { result ≡ is_digit b }
 {
     if b < b'0' { false } else { b <= b'9' }
 }
@@ -352,7 +352,7 @@ pub fn rest_is(s: &[u8], column: usize, w: &[u8]) -> bool
 
 // What is left of line 1 is its word.
 fn is_word(s: &[u8], column: usize) -> bool
-    ensures { result ≡ wordOfLine1 (drop column s.now) }
+    ensures { result ≡ word_of_line1 (drop column s.now) }
 {
     if rest_is(s, column, b" start") {
         return true;

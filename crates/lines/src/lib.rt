@@ -3,7 +3,7 @@
 
 ghost use Rattle.std.specs.Prelude.{◌≡◌, ◌<◌, length, drop};
 ghost use Rattle.lines.specs.FirstLine.{value_of, number_at, word_of, first_line};
-ghost use Rattle.lines.specs.StepLine.{begun as begunStep, bit_of, else_line, end_line, goto_line, test_line, kind_line, step_line};
+ghost use Rattle.lines.specs.StepLine.{begun as begun_step, bit_of, else_line, end_line, goto_line, test_line, kind_line, step_line};
 
 use fields::{Cursor, Field};
 use job::Job;
@@ -205,7 +205,7 @@ fn test_line(s: &[u8], at: Cursor, p: Step) -> StepLine
 }
 
 fn begun(kind: u8, name: usize) -> Step
-    ensures { result ≡ begunStep kind name }
+    ensures { result ≡ begun_step kind name }
 {
     Step {
         kind,

@@ -8,9 +8,9 @@ ghost use Rattle.job.specs.Limits.{max_steps, max_lemmas, max_names, max_text};
 ghost use Rattle.job.specs.Words.{start as start_word};
 ghost use Rattle.scan.specs.Lines.{row, lines};
 ghost use Rattle.scan.specs.Names.{lookup};
-ghost use Rattle.parse.specs.Answers.{answer_of, refusal as refusalOf, deny, without_lemmas};
-ghost use Rattle.parse.specs.Labels.{number_of, target_of, aim as aim_of, enter_to, enter_other, link_step, link as linkAll, at_lemmas};
-ghost use Rattle.parse.specs.Lemmas.{signed as signedItem, words, lemma, lemma_line, lemma_lines};
+ghost use Rattle.parse.specs.Answers.{answer_of, refusal as refusal_of, deny, without_lemmas};
+ghost use Rattle.parse.specs.Labels.{number_of, target_of, aim as aim_of, enter_to, enter_other, link_step, link as link_all, at_lemmas};
+ghost use Rattle.parse.specs.Lemmas.{signed as signed_item, words, lemma, lemma_line, lemma_lines};
 ghost use Rattle.parse.specs.Reading.{stop, read_job};
 
 use fields::Field;
@@ -68,7 +68,7 @@ pub struct Linked {
 }
 
 fn refusal(number: u8, place: usize) -> Verdict
-    ensures { result ≡ refusalOf number place }
+    ensures { result ≡ refusal_of number place }
 {
     Verdict::Refused(Refusal { number, place })
 }
@@ -98,7 +98,7 @@ fn denied(verdict: Verdict) -> Reading
 }
 
 fn refused(number: u8, place: usize) -> Reading
-    ensures { result ≡ deny (refusalOf number place) }
+    ensures { result ≡ deny (refusal_of number place) }
 {
     denied(refusal(number, place))
 }
@@ -196,7 +196,7 @@ fn link_step(d: Draft, p: Program, k: usize) -> Linked
 // The labels of all steps, step by step.
 fn link(d: Draft) -> Linked
     requires { d.program.steps ≤ max_steps }
-    ensures { result ≡ linkAll d d.program.steps }
+    ensures { result ≡ link_all d d.program.steps }
 {
     let mut p = d.program;
     let m = p.steps;
@@ -270,7 +270,7 @@ fn bare_at(s: &[u8], at: usize) -> usize
 
 fn signed(neg: bool, i: usize) -> i16
     requires { i ≤ 2 * max_steps }
-    ensures { result ≡ signedItem neg i }
+    ensures { result ≡ signed_item neg i }
 {
     if neg { -(i as i16) } else { i as i16 }
 }

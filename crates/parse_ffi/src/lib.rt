@@ -3,7 +3,7 @@
 
 ghost use Rattle.std.specs.Prelude.{◌≡◌};
 ghost use Rattle.parse.specs.Reading.{read_job};
-ghost use Rattle.parse_ffi.specs.Foreign.{flat as flatOf, in_c};
+ghost use Rattle.parse_ffi.specs.Foreign.{flat as flat_of, in_c};
 
 use job::Job;
 use parse::Verdict;
@@ -33,7 +33,7 @@ pub struct Answer {
 }
 
 fn flat(accepted: bool, number: u8, place: usize, j: Job) -> Answer
-    ensures { result ≡ flatOf accepted number place j }
+    ensures { result ≡ flat_of accepted number place j }
 {
     let p = j.program;
     let process = p.process;

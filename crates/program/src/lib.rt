@@ -5,9 +5,9 @@ ghost use Rattle.std.specs.Prelude.{◌≡◌, ◌+◌, ◌*◌, ◌<◌, ◌≤
 ghost use Rattle.std.proofs.Math.Seq.{slice};
 ghost use Rattle.job.specs.Limits.{max_steps, max_text};
 ghost use Rattle.scan.specs.Lines.{row, lines};
-ghost use Rattle.program.specs.Draft.{put4, blank as blankDraft, mention, process_of, other_end, enter, add_step};
+ghost use Rattle.program.specs.Draft.{put4, blank as blank_draft, mention, process_of, other_end, enter, add_step};
 ghost use Rattle.program.specs.ProgramLine.{is_lemmas, number_of, program_line, line_of};
-ghost use Rattle.program.specs.Program.{refuse, stop, program as programFrom, wrong_of, program_of};
+ghost use Rattle.program.specs.Program.{refuse, stop, program as program_from, wrong_of, program_of};
 
 use fields::{Cursor, Field};
 use job::{Job, Program};
@@ -63,7 +63,7 @@ pub struct Lined {
 
 // The draft of no steps.
 pub fn blank(bound: usize, word: u8) -> Draft
-    ensures { result ≡ blankDraft bound word }
+    ensures { result ≡ blank_draft bound word }
 {
     Draft {
         program: Program {
@@ -265,7 +265,7 @@ fn stopped(next: Next, d: Draft, n: usize, at: usize) -> Outcome
 fn program_lines(text: &[u8], from: usize, start: Draft) -> Outcome
     requires { (1 ≤ from) × (length text.now ≤ max_text) × (from ≤ max_text + 1)
         × (start.program.variables ≤ start.program.steps) × (start.program.steps ≤ max_steps) }
-    ensures { result ≡ programFrom start from 1 (lines (drop from text.now)) }
+    ensures { result ≡ program_from start from 1 (lines (drop from text.now)) }
 {
     let mut at = from;
     let mut n: usize = 1;

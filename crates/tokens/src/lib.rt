@@ -5,7 +5,7 @@ ghost use Rattle.std.specs.Prelude.{◌≡◌, ◌+◌, ◌-◌, ◌<◌, ◌≤
 ghost use Rattle.std.proofs.Math.Seq.{slice};
 ghost use Rattle.lists.specs.Pieces.{up_to, starts, is};
 ghost use Rattle.tokens.specs.Kinds.{kind_of};
-ghost use Rattle.tokens.specs.Numbers.{front, decimal, numbered as numberedToken, unsigned as unsignedToken, word_at};
+ghost use Rattle.tokens.specs.Numbers.{front, decimal, numbered as numbered_token, unsigned as unsigned_token, word_at};
 
 // A word between spaces.
 #[derive(Clone, Copy)]
@@ -186,7 +186,7 @@ fn digits(s: &[u8], from: usize, to: usize) -> Front
 
 // A number by its sign: 0 closes, and there is no `-0`.
 fn numbered(on: bool, v: usize, whole: bool) -> Token
-    ensures { result ≡ numberedToken on v whole }
+    ensures { result ≡ numbered_token on v whole }
 {
     if v == 0 {
         if on {
@@ -202,7 +202,7 @@ fn numbered(on: bool, v: usize, whole: bool) -> Token
 // A number behind its sign. Digits that a space or the line's end follows end the word; only any other word is looked through for its end.
 fn unsigned(s: &[u8], on: bool, from: usize, to: usize) -> Word
     requires { (from ≤ to) × (to ≤ length s.now) }
-    ensures { (result.token ≡ unsignedToken on (up_to 32 (slice from to s.now))) × (result.end ≡ from + length (up_to 32 (slice from to s.now))) }
+    ensures { (result.token ≡ unsigned_token on (up_to 32 (slice from to s.now))) × (result.end ≡ from + length (up_to 32 (slice from to s.now))) }
 {
     let d = digits(s, from, eight_bytes(s, from, to));
     let e = d.end;
