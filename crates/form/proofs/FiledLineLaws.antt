@@ -36,6 +36,7 @@ Byte b = within 32 126 b ≡ true
 
 pub plain_bytes : (s : List ℕ) → plain s ≡ true → (b : ℕ) → In b s → Byte b
 unfolding all_of
+plain_bytes [] h b x'' = elim x'' [ ]
 plain_bytes (x ∷ xs) h b (inl e) = ap (within 32 126) e ∙ and_left (within 32 126 x) (plain xs) h
 plain_bytes (x ∷ xs) h b (inr i) = plain_bytes xs (and_right (within 32 126 x) (plain xs) h) b i
 
