@@ -2,7 +2,6 @@
 use mathlib.Core.Path.{◌≡◌, refl, sym, ap, ◌∙◌}
 use mathlib.Core.Bool.{Bool, true, false, cond, false≢true}
 use mathlib.Core.List.{List, [], ◌∷◌}
-use mathlib.Core.Logic.{⊎_elim}
 use Prim.Native.Nat.{ℕ, suc, ◌+◌, ◌≤◌, ◌<◌}
 use native.Mathlib.Omega.{arith}
 use native.Mathlib.Numerals.{add-one}
@@ -13,9 +12,6 @@ use Rattle.lists.specs.Rows.{num}
 use Rattle.lists.specs.Pieces.{Pieces, last, piece, cut, up_to, starts, is}
 use Rattle.lists.proofs.PieceLaws.{part_take, take_up_to, up_within, cut_last, cut_piece, starts_length}
 use Rattle.tokens.specs.declared.Token.TheVariants.{Number}
-use types.Run.{OneOf}
-use denote.Enum.Declared as Declared
-use Rattle.tokens.specs.contracts.Kind as K
 use Rattle.tokens.specs.declared.Kind.{Kind}
 use Rattle.tokens.specs.declared.Kind.TheVariants.{Comment, Satisfiable, Unsatisfiable, Values, Other}
 use Rattle.tokens.specs.declared.Word.{Word}
@@ -156,14 +152,8 @@ module _ (s : List ℕ) (from to : ℕ) where
 
 -- r is the answer to a last line without LF, and m' the marks behind it
 module _ (k : ℕ) (r : Numbers) (m' : List ℕ) (line : Part (List ℕ)) (said : part_of r m' ≡ line) where
-  pub open_fault : (c : ℕ) → r ≡ Fault c → halted c k m' ≡ unended k line
-  open_fault c e = ap (unended k) (rw e at said)
-
   pub open_more : r ≡ More → halted 61 k m' ≡ unended k line
   open_more e = ap (unended k) (rw e at said)
-
-  pub open_closed : r ≡ Closed → halted 61 k m' ≡ unended k line
-  open_closed e = ap (unended k) (rw e at said)
 
 -- ---- the lines: what the line p with number k comes to, by its kind
 

@@ -1,8 +1,5 @@
 -- The tests come in 01's order; a reply that is read leaves its values in the buffer, and its clauses decide.
-use mathlib.Core.Path.{sym}
 use native.Mathlib.Omega.{arith}
-use borrow.Author.Rules.{rules}
-use lib.Seq.{length-take-le}
 use Rattle.totals.proofs.AnswerLaws.{totals_fit, totals_unfit}
 use Rattle.reply.proofs.CheckLaws.{is_45, is_51, is_60, is_refused, is_accepted_lem, is_65}
 use Rattle.reply.proofs.check.Goals as goal

@@ -1,12 +1,10 @@
 -- The loop writes one 0 more of the row.
-use mathlib.Core.Path.{◌≡◌, refl, ap, ◌∙◌}
+use mathlib.Core.Path.{refl, ap, ◌∙◌}
 use mathlib.Core.List.{List}
-use Prim.Native.Nat.{ℕ, ◌-◌, ◌≤◌}
+use Prim.Native.Nat.{ℕ}
 use native.Mathlib.Omega.{arith}
-use borrow.Author.Rules.{rules}
-use lib.ListN.{length-set, length, set}
+use lib.ListN.{length-set, set}
 use Rattle.lists.proofs.WritingLaws.{front_none, front_put}
-use Rattle.reply.specs.Check.{blank}
 use Rattle.reply.proofs.clear.Goals as goal
 
 pub loop-x-init : goal.loop-x-init

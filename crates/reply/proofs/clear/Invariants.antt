@@ -1,9 +1,7 @@
 -- The loop writes one 0 more of the row.
-use mathlib.Core.Path.{◌≡◌, refl, ap, ◌∙◌}
-use mathlib.Core.List.{List}
-use Prim.Native.Nat.{ℕ, ◌-◌, ◌≤◌}
-use lib.ListN.{length-set, length, set}
-use Rattle.lists.proofs.WritingLaws.{front_none, front_put}
+use mathlib.Core.Path.{◌≡◌}
+use Prim.Native.Nat.{◌-◌, ◌≤◌}
+use lib.ListN.{length}
 use Rattle.reply.specs.Check.{blank}
 use Rattle.reply.proofs.clear.Given as goal
 

@@ -1,5 +1,4 @@
 -- The table is fit, so the evaluation names a clause.
-use borrow.Author.Rules.{rules}
 use Rattle.reply.proofs.CheckLaws.{first_false, not_unfit}
 use Rattle.reply.proofs.false_clause.Goals as goal
 

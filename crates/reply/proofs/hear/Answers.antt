@@ -1,7 +1,5 @@
 -- The opening, the values and the closing lines come one behind the other, as in the definition.
-use native.Mathlib.Omega.{arith}
-use borrow.Author.Rules.{rules}
-use Rattle.reply.proofs.HeardLaws.{place_inside, not_begun, not_told, all_heard, not_closed}
+use Rattle.reply.proofs.HeardLaws.{not_begun, not_told, all_heard, not_closed}
 use Rattle.reply.proofs.hear.Goals as goal
 
 pub returns-in_default : goal.returns-in_default

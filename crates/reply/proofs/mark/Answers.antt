@@ -1,9 +1,6 @@
 -- The tests come in the definition's order: past N, twice, what stands behind the digits; then the mark is stored.
-use mathlib.Core.Path.{ap}
-use mathlib.Core.Bool.{not, true, false}
+use mathlib.Core.Bool.{true, false}
 use native.Mathlib.Omega.{arith}
-use borrow.Author.Rules.{rules}
-use borrow.Author.Tests.{not-true, not-false}
 use Rattle.reply.proofs.LineLaws.{say_past, say_twice, say_loose, say_more}
 use Rattle.reply.specs.Lines.{say_in}
 use Rattle.reply.proofs.mark.Goals as goal

@@ -1,8 +1,7 @@
 -- The loop keeps what is left: the lines from the first on end as the lines from this one on.
-use mathlib.Core.Path.{◌≡◌, refl, sym, ap, ◌∙◌}
-use Prim.Native.Nat.{suc, ◌+◌, ◌-◌, ◌≤◌}
+use mathlib.Core.Path.{◌≡◌, sym, ap, ◌∙◌}
+use Prim.Native.Nat.{◌+◌}
 use native.Mathlib.Omega.{arith}
-use borrow.Author.Rules.{rules}
 use lib.ListN.{length, drop}
 use lib.Seq.{length-slice, slice}
 use Rattle.lists.proofs.PieceLaws.{part_none, rest_last, rest_piece}

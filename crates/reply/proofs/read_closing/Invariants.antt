@@ -1,11 +1,8 @@
 -- The loop keeps what is left: the lines from the first on end as the lines from this one on.
-use mathlib.Core.Path.{◌≡◌, refl, sym, ap, ◌∙◌}
+use mathlib.Core.Path.{◌≡◌}
 use Prim.Native.Nat.{suc, ◌+◌, ◌-◌, ◌≤◌}
 use lib.ListN.{length, drop}
-use lib.Seq.{length-slice, slice}
-use Rattle.lists.proofs.PieceLaws.{part_none, rest_last, rest_piece}
 use Rattle.lists.specs.Pieces.{cut}
-use Rattle.reply.proofs.LineLaws.{close_last, close_end, closes, closes_else, close_kind}
 use Rattle.reply.specs.Lines.{closing}
 use Rattle.reply.proofs.read_closing.Given as goal
 

@@ -1,13 +1,9 @@
 -- The loop keeps what is left: all the words come to what the words from here on come to, with the marks so far.
-use mathlib.Core.Path.{◌≡◌, sym, ap, ◌∙◌}
-use Prim.Native.Nat.{suc, ◌-◌, ◌≤◌}
+use mathlib.Core.Path.{sym, ap, ◌∙◌}
 use native.Mathlib.Omega.{arith}
 use borrow.Author.Rules.{rules}
-use lib.ListN.{length}
-use lib.Seq.{slice}
-use Rattle.lists.specs.Pieces.{cut}
 use Rattle.reply.proofs.LineLaws.{last_word, bad_word, early_zero, next_word}
-use Rattle.reply.specs.Lines.{say_in, numbers_in}
+use Rattle.reply.specs.Lines.{say_in}
 use Rattle.reply.specs.Said.{marks}
 use Rattle.reply.proofs.read_numbers.Goals as goal
 

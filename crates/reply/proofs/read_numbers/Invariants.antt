@@ -1,11 +1,10 @@
 -- The loop keeps what is left: all the words come to what the words from here on come to, with the marks so far.
-use mathlib.Core.Path.{◌≡◌, sym, ap, ◌∙◌}
+use mathlib.Core.Path.{◌≡◌}
 use Prim.Native.Nat.{suc, ◌-◌, ◌≤◌}
 use lib.ListN.{length}
 use lib.Seq.{slice}
 use Rattle.lists.specs.Pieces.{cut}
-use Rattle.reply.proofs.LineLaws.{last_word, bad_word, early_zero, next_word}
-use Rattle.reply.specs.Lines.{say_in, numbers_in}
+use Rattle.reply.specs.Lines.{numbers_in}
 use Rattle.reply.specs.Said.{marks}
 use Rattle.reply.proofs.read_numbers.Given as goal
 

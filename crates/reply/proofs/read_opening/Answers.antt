@@ -1,9 +1,8 @@
 -- The loop keeps what is left: the reply opens as its lines from this one on.
-use mathlib.Core.Path.{◌≡◌, refl, sym, ap, ◌∙◌}
-use Prim.Native.Nat.{suc, ◌+◌, ◌-◌, ◌≤◌}
+use mathlib.Core.Path.{sym, ap, ◌∙◌}
+use Prim.Native.Nat.{◌+◌}
 use native.Mathlib.Omega.{arith}
-use borrow.Author.Rules.{rules}
-use lib.ListN.{length, drop}
+use lib.ListN.{drop}
 use lib.Seq.{slice}
 use Rattle.lists.proofs.PieceLaws.{rest_last, rest_piece}
 use Rattle.lists.specs.Pieces.{cut}

@@ -1,11 +1,8 @@
 -- The loop keeps what is left: the reply opens as its lines from this one on.
-use mathlib.Core.Path.{◌≡◌, refl, sym, ap, ◌∙◌}
+use mathlib.Core.Path.{◌≡◌}
 use Prim.Native.Nat.{suc, ◌+◌, ◌-◌, ◌≤◌}
 use lib.ListN.{length, drop}
-use lib.Seq.{slice}
-use Rattle.lists.proofs.PieceLaws.{rest_last, rest_piece}
 use Rattle.lists.specs.Pieces.{cut}
-use Rattle.reply.proofs.LineLaws.{open_last, opens, opens_else, open_kind}
 use Rattle.reply.specs.Lines.{opening}
 use Rattle.reply.proofs.read_opening.Given as goal
 

@@ -2,7 +2,6 @@
 use mathlib.Core.Path.{◌∙◌}
 use mathlib.Core.List.{[]}
 use native.Mathlib.Omega.{arith}
-use borrow.Author.Rules.{rules}
 use Rattle.reply.proofs.ReplyLaws.{hears, a_fault, a_gap, all_said}
 use Rattle.reply.specs.Reply.{heard_in, values_read}
 use Rattle.reply.specs.Said.{literals}

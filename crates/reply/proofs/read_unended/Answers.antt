@@ -1,9 +1,8 @@
 -- Whatever the line came to, the reply halts there; a comment without its LF is the same fault as any other line.
 use mathlib.Core.Path.{◌∙◌}
-use borrow.Author.Rules.{rules}
 use lib.ListN.{length}
 use lib.Seq.{slice}
-use Rattle.reply.proofs.LineLaws.{line_in, line_unended, open_fault, open_more, open_closed}
+use Rattle.reply.proofs.LineLaws.{line_in, line_unended, open_more}
 use Rattle.reply.proofs.read_unended.Goals as goal
 
 pub returns-in-More : goal.returns-in-More

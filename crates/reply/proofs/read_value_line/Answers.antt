@@ -1,6 +1,5 @@
 -- A comment says nothing, behind `v ` the line is its words, and any other line is a fault.
 use mathlib.Core.Path.{sym, ap, ◌∙◌}
-use borrow.Author.Rules.{rules}
 use lib.Seq.{slice}
 use Rattle.lists.specs.Pieces.{cut}
 use Rattle.reply.proofs.LineLaws.{says, says_else, line_kind, v_room, behind}

@@ -1,12 +1,8 @@
 -- The loop keeps what is left: the lines from the first on tell what the lines from this one on tell, with the marks so far.
-use mathlib.Core.Path.{◌≡◌, refl, sym, ap, ◌∙◌}
-use Prim.Native.Nat.{ℕ, suc, ◌+◌, ◌-◌, ◌≤◌}
+use mathlib.Core.Path.{◌≡◌}
+use Prim.Native.Nat.{suc, ◌+◌, ◌-◌, ◌≤◌}
 use lib.ListN.{length, drop}
-use lib.Seq.{slice}
-use Rattle.lists.proofs.PieceLaws.{rest_last, rest_piece}
 use Rattle.lists.specs.Pieces.{cut}
-use Rattle.tokens.specs.Kinds.{kind_of}
-use Rattle.reply.proofs.LineLaws.{values_last, values_fault, values_closed, values_more}
 use Rattle.reply.specs.Lines.{value_lines_in}
 use Rattle.reply.specs.Said.{marks}
 use Rattle.reply.proofs.read_values.Given as goal

@@ -1,12 +1,8 @@
 -- The loop turns one mark more into a value; a mark that is missing ends it.
-use mathlib.Core.Path.{◌≡◌, refl, sym, ap, ◌∙◌}
-use mathlib.Core.Logic.{⊎_elim}
+use mathlib.Core.Path.{◌≡◌}
 use Prim.Native.Nat.{◌-◌, ◌≤◌}
-use lib.ListN.{length-set, length}
-use Rattle.lists.proofs.PlaceLaws.{first_zero}
+use lib.ListN.{length}
 use Rattle.lists.specs.Rows.{num}
-use Rattle.lists.proofs.WritingLaws.{front_none}
-use Rattle.reply.proofs.BufferLaws.{now_false, now_true, none_missing, one_missing}
 use Rattle.reply.specs.Answers.{cleaned}
 use Rattle.reply.specs.Reply.{missing}
 use Rattle.reply.proofs.settle.Given as goal

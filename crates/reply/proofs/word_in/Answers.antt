@@ -1,5 +1,4 @@
 -- The word is the bytes up to the space in the rest of the line, so it ends within it.
-use borrow.Author.Rules.{rules}
 use Rattle.reply.proofs.LineLaws.{word_in}
 use Rattle.reply.proofs.word_in.Goals as goal
 
