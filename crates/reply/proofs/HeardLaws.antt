@@ -1,19 +1,15 @@
 -- Laws of a whole reply: one for each way out of the code that hears it.
 use mathlib.Core.Path.{◌≡◌, refl, ap, ◌∙◌}
 use mathlib.Core.List.{List}
-use Prim.Native.Nat.{ℕ, zero, suc, ◌≤◌}
-use lib.ListN.{length, drop}
+use Prim.Native.Nat.{ℕ, zero, suc}
+use lib.ListN.{drop}
 use Rattle.lists.specs.Pieces.{cut}
 use Rattle.reply.specs.declared.Place.{Place}
 use Rattle.reply.specs.declared.Place.TheVariants.{Halt, At}
 use Rattle.reply.specs.Said.{marks}
 use Rattle.reply.specs.Lines.{Opened, opening, value_lines_in, closing}
 use Rattle.reply.specs.Reply.{Heard, turned, whole, ended, spoken, started, heard_in}
-use Rattle.reply.specs.Answers.{opened_of, told_of, heard_of, inside}
-
--- a place that was reached lies in the text
-pub place_inside : (s : List ℕ) (r : Place) (i k : ℕ) → r ≡ At i k → inside s r → (i ≤ length s) × (k ≤ suc i)
-place_inside s r i k e p = rw e at p
+use Rattle.reply.specs.Answers.{opened_of, told_of, heard_of}
 
 module _ (N : ℕ) (m s : List ℕ) (o : Place) (opens : opened_of s o ≡ opening 1 (cut 10 s)) where
   abbrev from : Opened → Heard (List ℕ)

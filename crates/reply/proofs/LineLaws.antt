@@ -2,7 +2,6 @@
 use mathlib.Core.Path.{◌≡◌, refl, sym, ap, ◌∙◌}
 use mathlib.Core.Bool.{Bool, true, false, cond, false≢true}
 use mathlib.Core.List.{List, [], ◌∷◌}
-use mathlib.Core.Logic.{⊎_elim}
 use Prim.Native.Nat.{ℕ, suc, ◌+◌, ◌≤◌, ◌<◌}
 use native.Mathlib.Omega.{arith}
 use native.Mathlib.Numerals.{add-one}
@@ -13,9 +12,6 @@ use Rattle.lists.specs.Rows.{num}
 use Rattle.lists.specs.Pieces.{Pieces, last, piece, cut, up_to, starts, is}
 use Rattle.lists.proofs.PieceLaws.{part_take, take_up_to, up_within, cut_last, cut_piece, starts_length}
 use Rattle.tokens.specs.declared.Token.TheVariants.{Number}
-use types.Run.{OneOf}
-use denote.Enum.Declared as Declared
-use Rattle.tokens.specs.contracts.Kind as K
 use Rattle.tokens.specs.declared.Kind.{Kind}
 use Rattle.tokens.specs.declared.Kind.TheVariants.{Comment, Satisfiable, Unsatisfiable, Values, Other}
 use Rattle.tokens.specs.declared.Word.{Word}
@@ -111,12 +107,12 @@ module _ (N : ℕ) (m : List ℕ) (p : List ℕ) where
   says Other = fault 61 m
 
   -- the kinds that are neither
-  pub says_else : (q : Kind) → OneOf (1 ∷ 2 ∷ 4 ∷ []) (Declared.tag_of K.the_type q) → fault 61 m ≡ says q
-  says_else Comment h = absurd (⊎_elim (λ (e : 0 ≡ 1). omega arith) (⊎_elim (λ (e : 0 ≡ 2). omega arith) (λ (e : 0 ≡ 4). omega arith)) h)
-  says_else Satisfiable h = refl
-  says_else Unsatisfiable h = refl
-  says_else Values h = absurd (⊎_elim (λ (e : 3 ≡ 1). omega arith) (⊎_elim (λ (e : 3 ≡ 2). omega arith) (λ (e : 3 ≡ 4). omega arith)) h)
-  says_else Other h = refl
+  pub says_else : (q : Kind) → (q ≡ Comment → ⊥) → (q ≡ Values → ⊥) → fault 61 m ≡ says q
+  says_else Comment f g = absurd (f refl)
+  says_else Satisfiable f g = refl
+  says_else Unsatisfiable f g = refl
+  says_else Values f g = absurd (g refl)
+  says_else Other f g = refl
 
   pub line_kind : says (kind_of p) ≡ line_in
   unfolding kind_of value_line_in
@@ -156,14 +152,8 @@ module _ (s : List ℕ) (from to : ℕ) where
 
 -- r is the answer to a last line without LF, and m' the marks behind it
 module _ (k : ℕ) (r : Numbers) (m' : List ℕ) (line : Part (List ℕ)) (said : part_of r m' ≡ line) where
-  pub open_fault : (c : ℕ) → r ≡ Fault c → halted c k m' ≡ unended k line
-  open_fault c e = ap (unended k) (rw e at said)
-
   pub open_more : r ≡ More → halted 61 k m' ≡ unended k line
   open_more e = ap (unended k) (rw e at said)
-
-  pub open_closed : r ≡ Closed → halted 61 k m' ≡ unended k line
-  open_closed e = ap (unended k) (rw e at said)
 
 -- ---- the lines: what the line p with number k comes to, by its kind
 
@@ -175,12 +165,12 @@ module _ (p : List ℕ) (ps : Pieces) (k : ℕ) where
   opens Values = stopped 61 k
   opens Other = stopped 61 k
 
-  pub opens_else : (q : Kind) → OneOf (3 ∷ 4 ∷ []) (Declared.tag_of K.the_type q) → stopped 61 k ≡ opens q
-  opens_else Comment h = absurd (⊎_elim (λ (e : 0 ≡ 3). omega arith) (λ (e : 0 ≡ 4). omega arith) h)
-  opens_else Satisfiable h = absurd (⊎_elim (λ (e : 1 ≡ 3). omega arith) (λ (e : 1 ≡ 4). omega arith) h)
-  opens_else Unsatisfiable h = absurd (⊎_elim (λ (e : 2 ≡ 3). omega arith) (λ (e : 2 ≡ 4). omega arith) h)
-  opens_else Values h = refl
-  opens_else Other h = refl
+  pub opens_else : (q : Kind) → (q ≡ Comment → ⊥) → (q ≡ Satisfiable → ⊥) → (q ≡ Unsatisfiable → ⊥) → stopped 61 k ≡ opens q
+  opens_else Comment f g h = absurd (f refl)
+  opens_else Satisfiable f g h = absurd (g refl)
+  opens_else Unsatisfiable f g h = absurd (h refl)
+  opens_else Values f g h = refl
+  opens_else Other f g h = refl
 
   pub open_kind : opens (kind_of p) ≡ opening k (piece p ps)
   unfolding opening kind_of
@@ -200,9 +190,8 @@ module _ (p : List ℕ) (ps : Pieces) (k : ℕ) where
   closes Values = k
   closes Other = k
 
-  pub closes_else : (q : Kind) → OneOf (1 ∷ 2 ∷ 3 ∷ 4 ∷ []) (Declared.tag_of K.the_type q) → k ≡ closes q
-  closes_else Comment h =
-      absurd (⊎_elim (λ (e : 0 ≡ 1). omega arith) (⊎_elim (λ (e : 0 ≡ 2). omega arith) (⊎_elim (λ (e : 0 ≡ 3). omega arith) (λ (e : 0 ≡ 4). omega arith))) h)
+  pub closes_else : (q : Kind) → (q ≡ Comment → ⊥) → k ≡ closes q
+  closes_else Comment h = absurd (h refl)
   closes_else Satisfiable h = refl
   closes_else Unsatisfiable h = refl
   closes_else Values h = refl
