@@ -4,11 +4,10 @@ use mathlib.Core.Bool.{Bool, true, false, ◌&&◌}
 use mathlib.Core.List.{List}
 use Prim.Native.Nat.{ℕ, ◌+◌, ◌-◌, ◌≤◌, ◌<◌}
 use native.Mathlib.Omega.{arith}
-use borrow.Author.Tests.{le-leb, lt-leb}
+use borrow.Author.Tests.{le-leb}
 use lib.Dec.{leb}
 use lib.ListN.{length, take, length-drop, length-take}
 use lib.Seq.{slice}
-use Rattle.lists.proofs.Logic.{and_no}
 use Rattle.lists.proofs.TestLaws.{within_under, within_over, within_is}
 use Rattle.job.specs.Limits.{max_steps}
 use Rattle.scan.specs.Names.{lookup}
@@ -25,12 +24,6 @@ either_unknown true = refl
 either_unknown false = refl
 
 module _ (labels names : List ℕ) (m n : ℕ) (w : List ℕ) where
-  pub many_steps : max_steps < m → Unknown ≡ known_in labels names m n w
-  many_steps h = rw (lt-leb m max_steps h)
-
-  pub many_variables : max_steps < n → Unknown ≡ known_in labels names m n w
-  many_variables h = rw (lt-leb n max_steps h, and_no (leb m max_steps))
-
   pub in_limits : m ≤ max_steps → n ≤ max_steps → known_in labels names m n w ≡ named_in labels names m n w
   in_limits h k = rw (le-leb m max_steps h, le-leb n max_steps k)
 

@@ -2,18 +2,14 @@
 use mathlib.Core.Path.{◌≡◌, refl, sym, ap, ◌∙◌, subst}
 use mathlib.Core.Bool.{Bool, true, false, cond, and-true}
 use mathlib.Core.List.{List, [], ◌∷◌}
-use Prim.Native.Nat.{ℕ, zero, suc, ◌+◌, ◌-◌, ◌≤◌, ◌<◌}
+use Prim.Native.Nat.{ℕ, suc, ◌+◌, ◌-◌, ◌≤◌, ◌<◌}
 use native.Mathlib.Omega.{arith}
 use native.Mathlib.Decide.{dec_lt}
 use native.Mathlib.Numerals.{add-one}
 use borrow.Author.Tests.{ne_eqb, le-leb, lt-leb}
-use lib.Dec.{eqb, ltb, leb, lit<}
-use lib.IntN.{ℤ, pos, neg_ℤ, ◌-ℤ◌, +ℤ_idl}
+use lib.Dec.{eqb, ltb, leb}
 use lib.ListN.{length, get_or, drop, take, drop_of_length-le}
 use lib.Seq.{drop-cons, drop-drop, take_all}
-use mir.Syntax.{w16}
-use mir.Val.{SFits, to_z, of_z}
-use mir.ValLaws.{to_z_pos, to_z-of_z}
 use Rattle.lists.specs.Rows.{num}
 use Rattle.lists.specs.Tests.{within}
 use Rattle.lists.specs.Pieces.{cut, up_to, starts}
@@ -42,21 +38,6 @@ use Rattle.parse.specs.Lemmas.{word, filled, words, bare, negated, item_in, sign
 use Rattle.parse.specs.Lemmas.{whole, lemma_line, lemma_lines}
 use Rattle.parse.specs.declared.Reading.{Reading}
 use Rattle.parse.proofs.AnswerLaws.{Holds, pick_holds, then_holds}
-
--- ---- signed items
-
-sfits_neg : (x : ℕ) → x < 32768 → SFits w16 (neg_ℤ (pos x))
-sfits_neg zero h = record { sfits = lit< tt }
-sfits_neg (suc n) h = record { sfits = omega arith }
-
-minus : (x : ℕ) → x < 32768 → pos 0 -ℤ to_z w16 x ≡ neg_ℤ (pos x)
-minus x h = ap (λ (z : ℤ). pos 0 -ℤ z) (to_z_pos w16 x h) ∙ +ℤ_idl (neg_ℤ (pos x))
-
-pub minus_fits : (x : ℕ) → x < 32768 → SFits w16 (pos 0 -ℤ to_z w16 x)
-minus_fits x h = subst (λ (z : ℤ). SFits w16 z) (sym (minus x h)) (sfits_neg x h)
-
-pub minus_back : (x : ℕ) → x < 32768 → to_z w16 (of_z w16 (pos 0 -ℤ to_z w16 x)) ≡ neg_ℤ (pos x)
-minus_back x h = to_z-of_z w16 _ (minus_fits x h) ∙ minus x h
 
 -- ---- words
 
