@@ -1,0 +1,21 @@
+-- The line and its LF, one behind the other, or nothing.
+use mathlib.Core.Path.{◌∙◌, sym}
+use native.Mathlib.Omega.{arith}
+use Rattle.put.proofs.PutLaws.{put_fits, put_none, put_then, put_own}
+use Rattle.filing.proofs.KeptLineLaws.{kept_comment, kept_line, kept_long}
+use Rattle.filing.proofs.kept_lines.put_line.Goals as goal
+
+pub returns-then-follows : goal.returns-then-follows
+returns-then-follows c =
+    let a = c.args in
+    rw (kept_comment a.line.now (sym c.follows.ensures ∙ c.if-follows.true)) (put_none a.out.now a.at)
+
+pub returns : goal.returns
+returns c =
+    let l = c.args.line.now in
+    let t = sym c.follows.ensures ∙ c.if-follows.false in
+    let n = kept_long l t in
+    let room = c.requires in
+    let a = put_fits c.put_part-end.ensures (omega (arith, room)) in
+    let p = put_then a (put_fits c.put_byte.ensures (omega (arith, room))) (omega (arith, room)) in
+    rw (kept_line l t) (put_own p)
