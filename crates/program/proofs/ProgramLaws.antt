@@ -5,9 +5,6 @@ use Prim.Native.Nat.{ℕ, ◌+◌, ◌-◌, ◌≤◌, ◌<◌}
 use native.Mathlib.Omega.{arith}
 use lib.Dec.{ltb}
 use lib.ListN.{length, drop, take, length-take, length-drop}
-use types.Run.{OneOf}
-use denote.Enum.Declared as Declared
-use mathlib.Core.Logic.{⊎_elim}
 use Rattle.lists.proofs.TestLaws.{within_under, within_over, within_is}
 use Rattle.job.specs.Limits.{max_text}
 use Rattle.scan.specs.Bytes.{word_at}
@@ -30,7 +27,6 @@ use Rattle.program.specs.declared.Next.{Next}
 use Rattle.program.specs.declared.Next.TheVariants.{More}
 use Rattle.program.specs.declared.Next.TheVariants.{Lemmas as AtLemmas}
 use Rattle.program.specs.declared.Next.TheVariants.{No as NoLine}
-use Rattle.program.specs.contracts.Next as N
 use Rattle.program.specs.declared.Outcome.{Outcome}
 
 -- ---- program lines
@@ -66,10 +62,10 @@ module _ (text : List ℕ) (at e : ℕ) (l : at < length text) (k : e ≡ at + l
   program_turn d n r h = ap (program d at n) (lines_at text at e l k) ∙ program_line_lem d at n _ _ r (e + 1) h line_ends
 
 -- a line after which no program line is read
-pub not_more : (x : Next) → OneOf (1 ∷ 2 ∷ []) (Declared.tag_of N.the_type x) → (d : Draft) (n at : ℕ) (k k' : Draft → Outcome)
+pub not_more : (x : Next) → (x ≡ More → ⊥) → (d : Draft) (n at : ℕ) (k k' : Draft → Outcome)
     → follow x d n at k ≡ follow x d n at k'
 unfolding follow
-not_more More h d n at k k' = absurd (⊎_elim (λ (e : 0 ≡ 1). omega arith) (λ (e : 0 ≡ 2). omega arith) h)
+not_more More h d n at k k' = absurd (h refl)
 not_more AtLemmas h d n at k k' = refl
 not_more (NoLine m) h d n at k k' = refl
 
