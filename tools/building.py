@@ -1,5 +1,6 @@
 """The proved programs and static libraries, built where one is missing or older than its sources."""
 import os
+import re
 import shutil
 import signal
 import subprocess
@@ -94,21 +95,48 @@ def must_be_new(root, crate, built):
         raise Failed(f"{why}, so it is not tested")
 
 
-def prove(root):
-    """rt's lines: those that it begins with its name tell of a crate, the others what is wrong. Who stops waiting stops the provers."""
-    details = []
+def asked(root, crate, word, told):
+    """What `rt word` says of a crate, in that crate's folder: `told` is given each line; the last twenty come back with the status. Who
+    stops waiting stops the provers."""
+    lines = []
+    folder = root / "crates" / crate
+    rt = subprocess.Popen(["rt", word], cwd=folder, stdin=subprocess.DEVNULL, start_new_session=True, **PIPES)
+    try:
+        for line in map(str.rstrip, rt.stdout):
+            told(line)
+            lines.append(line)
+    except KeyboardInterrupt:
+        os.killpg(rt.pid, signal.SIGTERM)
+        raise
+    return rt.wait(), lines[-20:]
+
+
+def prove(root, folder):
+    """Each program with the crates that it stands on: rt names a crate when it begins with it, and says when all of it is proved. What rt
+    built is copied into the folder."""
+    met, now = set(), []
     with Progress(len(needed(root, PROGRAMS))) as progress:
-        rt = subprocess.Popen(["rt", "check", *PROGRAMS], cwd=root, start_new_session=True, **PIPES)
-        try:
-            for line in map(str.rstrip, rt.stdout):
-                if line.startswith("rt: ") and " proved" in line and not line.startswith("rt: ok"):
-                    progress.proved(line.removeprefix("rt: "))
-                elif line:
-                    details.append(line)
-        except KeyboardInterrupt:
-            os.killpg(rt.pid, signal.SIGTERM)
-            raise
-    return rt.wait(), details[-20:]
+        def told(line):
+            begun = re.match(r"rt: chose --jobs \d+ for (\w+)", line)
+            if begun:
+                now[:] = begun.groups()
+            elif line.startswith("logic=proved") and not met.issuperset(now):
+                met.update(now)
+                progress.proved(f"{now[0]} proved")
+
+        for name in PROGRAMS:
+            status, lines = asked(root, name, "run", told)
+            if status:
+                return status, lines
+            take(root / "crates" / name / "out" / name, folder / name)
+    return 0, []
+
+
+def take(made, path):
+    """What rt made, at the path where it is looked for."""
+    if made.exists():
+        path.parent.mkdir(parents=True, exist_ok=True)
+        shutil.copy(made, path)
 
 
 def date(paths, seconds):
@@ -135,7 +163,7 @@ def build(root, folder, say):
     else:
         say("Building the programs. Their proofs are checked first; that takes some minutes, once.")
     begin = time.time()
-    status, details = prove(root)
+    status, details = prove(root, folder)
     if status:
         raise Failed("\n".join(["the programs could not be built", *details]))
     for path in programs:
@@ -152,8 +180,9 @@ def library(root, crate, say):
         ask_for_rt(why)
         say(f"{why}: it is built.")
         begin = time.time()
-        rt = subprocess.run(["rt", "staticlib", crate], cwd=root, **PIPES)
-        if rt.returncode:
-            raise Failed("\n".join([f"{path.name} could not be built", *rt.stdout.splitlines()[-20:]]))
+        status, lines = asked(root, crate, "lib", lambda line: None)
+        if status:
+            raise Failed("\n".join([f"{path.name} could not be built", *lines]))
+        take(root / "crates" / crate / "out" / path.name, path)
         date([path], begin)
     return path

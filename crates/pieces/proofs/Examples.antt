@@ -1,8 +1,8 @@
 -- `longest` is the length of the longest clause, no more: a job of 100 steps that each set a bit of their own has one of that length.
 use mathlib.Core.Path.{◌≡◌, refl}
 use mathlib.Core.Bool.{true}
-use mathlib.Core.List.{List, [], ◌∷◌, ◌++◌}
-use Prim.Native.Nat.{ℕ, suc}
+use mathlib.Core.List.{[], ◌∷◌, ◌++◌}
+use Prim.Native.Nat.{suc}
 use lib.ListN.{length, get_or}
 use Rattle.lists.specs.Rows.{each, tab}
 use Rattle.lists.specs.Tests.{every, all, within}

@@ -111,12 +111,12 @@ module _ (N : ℕ) (m : List ℕ) (p : List ℕ) where
   says Other = fault 61 m
 
   -- the kinds that are neither
-  pub says_else : (q : Kind) → OneOf (1 ∷ 2 ∷ 4 ∷ []) (Declared.tag_of K.the_type q) → fault 61 m ≡ says q
-  says_else Comment h = absurd (⊎_elim (λ (e : 0 ≡ 1). omega arith) (⊎_elim (λ (e : 0 ≡ 2). omega arith) (λ (e : 0 ≡ 4). omega arith)) h)
-  says_else Satisfiable h = refl
-  says_else Unsatisfiable h = refl
-  says_else Values h = absurd (⊎_elim (λ (e : 3 ≡ 1). omega arith) (⊎_elim (λ (e : 3 ≡ 2). omega arith) (λ (e : 3 ≡ 4). omega arith)) h)
-  says_else Other h = refl
+  pub says_else : (q : Kind) → (q ≡ Comment → ⊥) → (q ≡ Values → ⊥) → fault 61 m ≡ says q
+  says_else Comment f g = absurd (f refl)
+  says_else Satisfiable f g = refl
+  says_else Unsatisfiable f g = refl
+  says_else Values f g = absurd (g refl)
+  says_else Other f g = refl
 
   pub line_kind : says (kind_of p) ≡ line_in
   unfolding kind_of value_line_in
@@ -175,12 +175,12 @@ module _ (p : List ℕ) (ps : Pieces) (k : ℕ) where
   opens Values = stopped 61 k
   opens Other = stopped 61 k
 
-  pub opens_else : (q : Kind) → OneOf (3 ∷ 4 ∷ []) (Declared.tag_of K.the_type q) → stopped 61 k ≡ opens q
-  opens_else Comment h = absurd (⊎_elim (λ (e : 0 ≡ 3). omega arith) (λ (e : 0 ≡ 4). omega arith) h)
-  opens_else Satisfiable h = absurd (⊎_elim (λ (e : 1 ≡ 3). omega arith) (λ (e : 1 ≡ 4). omega arith) h)
-  opens_else Unsatisfiable h = absurd (⊎_elim (λ (e : 2 ≡ 3). omega arith) (λ (e : 2 ≡ 4). omega arith) h)
-  opens_else Values h = refl
-  opens_else Other h = refl
+  pub opens_else : (q : Kind) → (q ≡ Comment → ⊥) → (q ≡ Satisfiable → ⊥) → (q ≡ Unsatisfiable → ⊥) → stopped 61 k ≡ opens q
+  opens_else Comment f g h = absurd (f refl)
+  opens_else Satisfiable f g h = absurd (g refl)
+  opens_else Unsatisfiable f g h = absurd (h refl)
+  opens_else Values f g h = refl
+  opens_else Other f g h = refl
 
   pub open_kind : opens (kind_of p) ≡ opening k (piece p ps)
   unfolding opening kind_of
@@ -200,9 +200,8 @@ module _ (p : List ℕ) (ps : Pieces) (k : ℕ) where
   closes Values = k
   closes Other = k
 
-  pub closes_else : (q : Kind) → OneOf (1 ∷ 2 ∷ 3 ∷ 4 ∷ []) (Declared.tag_of K.the_type q) → k ≡ closes q
-  closes_else Comment h =
-      absurd (⊎_elim (λ (e : 0 ≡ 1). omega arith) (⊎_elim (λ (e : 0 ≡ 2). omega arith) (⊎_elim (λ (e : 0 ≡ 3). omega arith) (λ (e : 0 ≡ 4). omega arith))) h)
+  pub closes_else : (q : Kind) → (q ≡ Comment → ⊥) → k ≡ closes q
+  closes_else Comment h = absurd (h refl)
   closes_else Satisfiable h = refl
   closes_else Unsatisfiable h = refl
   closes_else Values h = refl

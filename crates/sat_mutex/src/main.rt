@@ -8,42 +8,48 @@ ghost use Rattle.job.specs.Fitness.{fit};
 ghost use Rattle.cnf.specs.Piece.{least_room};
 ghost use Rattle.text.specs.Dimacs.{number_room};
 
+use input::read_full;
 use job::Job;
-use libc::{STDIN_FILENO, STDOUT_FILENO};
 use outputs::dimacs::{Piece, next_piece, opening};
+use std::io;
+use std::io::Print;
 
 // Piece by piece while clauses are left. A piece is never empty, so that the loop ends at the last clause alone.
-fn print_pieces(j: Job, count: usize, text: &mut [u8])
+fn print_pieces<P: Print>(out: &P, j: Job, count: usize, text: &mut [u8]) -> io::Result<()>
     requires { (fit j ≡ true) × (count ≡ length (clauses j)) × (least_room * number_room ≤ length text.old) }
 {
     let mut left = count;
     while 0 < left {
         let p = next_piece(j, count - left + 1, &mut *text);
         let n = p.length;
-        if !io::write_all(STDOUT_FILENO, &text[..n]) {
-            return;
-        }
+        out.write_all(&text[..n])?;
         left -= p.clauses;
     }
+    Ok(())
 }
 
-fn print_clauses(j: Job, count: usize)
+fn print_clauses<P: Print>(out: &P, j: Job, count: usize) -> io::Result<()>
     requires { 0 < count → (fit j ≡ true) × (count ≡ length (clauses j)) }
 {
     if 0 < count {
         let mut text = [0u8; Piece::TEXT];
-        print_pieces(j, count, &mut text);
+        print_pieces(out, j, count, &mut text)
+    } else {
+        Ok(())
     }
 }
 
-fn main() {
-    // One byte more than a job may have, so that a longer one is seen.
-    let mut space = [0u8; Job::TEXT + 1];
-    let n = io::read_full(STDIN_FILENO, &mut space);
-    let opened = opening(&space[..n]);
+fn print_all<P: Print>(out: &P, text: &[u8]) -> io::Result<()> {
+    let opened = opening(text);
     let text = opened.text;
     let length = opened.length;
-    if io::write_all(STDOUT_FILENO, &text[..length]) {
-        print_clauses(opened.job, opened.clauses);
-    }
+    out.write_all(&text[..length])?;
+    print_clauses(out, opened.job, opened.clauses)
+}
+
+fn main(rt: HostRuntime) {
+    // One byte more than a job may have, so that a longer one is seen.
+    let mut space = [0u8; Job::TEXT + 1];
+    let n = read_full(&mut rt.stdin(), &mut space);
+    let _ = print_all(&rt, &space[..n]);
 }
