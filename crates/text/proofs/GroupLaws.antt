@@ -1,9 +1,7 @@
--- The place of a group's bytes is small, and a run has a line for each time.
+-- A run has a line for each time.
 use mathlib.Core.Path.{◌≡◌, refl}
 use mathlib.Core.Bool.{Bool, true, false, ◌&&◌, cond}
-use Prim.Native.Nat.{ℕ, suc, ◌+◌, ◌*◌, ◌≤◌, ◌<◌}
-use native.Mathlib.Omega.{arith}
-use native.Mathlib.Nat.{mul-le-mul}
+use Prim.Native.Nat.{suc, ◌≤◌, ◌<◌}
 use borrow.Author.Tests.{le-leb, lt-leb}
 use lib.Dec.{leb}
 use Rattle.lists.specs.Tests.{every}
@@ -11,11 +9,6 @@ use Rattle.job.specs.declared.Job.{Job}
 use Rattle.job.specs.Limits.{max_steps, max_bound}
 use Rattle.job.specs.Table.{n, r}
 use Rattle.text.specs.RunText.{run_lines}
-
-pub group_within : (n t : ℕ) → n ≤ max_steps → t ≤ max_bound → t * (n + 3) ≤ max_bound * (max_steps + 3)
-group_within n t h k = mul-le-mul {n₁ = t} {m₁ = n + 3} {n₂ = max_bound} {m₂ = max_steps + 3} k (omega arith)
-
--- ---- how many lines a table's run has
 
 module _ (J : Job) where
   pub long_bound : max_bound < r J.program → run_lines J ≡ 0
