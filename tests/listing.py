@@ -14,7 +14,7 @@ for line in sys.stdin:
 assert len(rows) == clauses
 
 print(f"""-- Printed by the separate generator of tests/generator for its job {sys.argv[1]}, and put into this form by tests/listing.py.
-use mathlib.Core.List.{{List, [], _∷_}}
+use mathlib.Core.List.{{List, [], ◌∷◌}}
 use Prim.Native.Nat.{{ℕ, zero, suc}}
 use lib.IntN.{{ℤ, pos, negsuc}}
 

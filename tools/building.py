@@ -60,7 +60,7 @@ def needed(root, names):
     for line in (root / "crates.txt").read_text().splitlines():
         name, colon, under = line.partition(":")
         if colon and not line.startswith("#"):
-            below[name] = under.split()
+            below[name.split()[0]] = under.split()   # behind the name may stand what kind of crate it is
     met, todo = set(), list(names)
     while todo:
         name = todo.pop()
