@@ -32,7 +32,8 @@ def as_new(crate, build):
 
 @functools.cache
 def path(program):
-    return as_new(program, lambda: building.build(ROOT, BIN, say) or BIN / program)
+    together = building.PROGRAMS if program in building.PROGRAMS else [program]
+    return as_new(program, lambda: building.build(ROOT, BIN, say, together) or BIN / program)
 
 
 def all_new():

@@ -111,11 +111,11 @@ def asked(root, crate, word, told):
     return rt.wait(), lines[-20:]
 
 
-def prove(root, folder):
+def prove(root, folder, names):
     """Each program with the crates that it stands on: rt names a crate when it begins with it, and says when all of it is proved. What rt
     built is copied into the folder."""
     met, now = set(), []
-    with Progress(len(needed(root, PROGRAMS))) as progress:
+    with Progress(len(needed(root, names))) as progress:
         def told(line):
             begun = re.match(r"rt: chose --jobs \d+ for (\w+)", line)
             if begun:
@@ -124,7 +124,7 @@ def prove(root, folder):
                 met.update(now)
                 progress.proved(f"{now[0]} proved")
 
-        for name in PROGRAMS:
+        for name in names:
             status, lines = asked(root, name, "run", told)
             if status:
                 return status, lines
@@ -150,9 +150,9 @@ def ask_for_rt(why):
         raise Failed(f"{why}, and rt, the Rattle toolchain that proves and builds, is not on the PATH")
 
 
-def build(root, folder, say):
+def build(root, folder, say, names=PROGRAMS):
     """Whatever is missing or old is proved and built; without rt, programs that are there are taken as they are."""
-    programs = [folder / name for name in PROGRAMS]
+    programs = [folder / name for name in names]
     why = next(filter(None, (fault(root, path.name, path) for path in programs)), None)
     there = all(path.exists() for path in programs)
     if not why or there and not shutil.which("rt"):
@@ -163,7 +163,7 @@ def build(root, folder, say):
     else:
         say("Building the programs. Their proofs are checked first; that takes some minutes, once.")
     begin = time.time()
-    status, details = prove(root, folder)
+    status, details = prove(root, folder, names)
     if status:
         raise Failed("\n".join(["the programs could not be built", *details]))
     for path in programs:
