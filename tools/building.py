@@ -133,10 +133,10 @@ def prove(root, folder, names):
 
 
 def take(made, path):
-    """What rt made, at the path where it is looked for."""
+    """What rt made, with its time, at the path where it is looked for."""
     if made.exists():
         path.parent.mkdir(parents=True, exist_ok=True)
-        shutil.copy(made, path)
+        shutil.copy2(made, path)
 
 
 def date(paths, seconds):
@@ -168,7 +168,7 @@ def build(root, folder, say, names=PROGRAMS):
         raise Failed("\n".join(["the programs could not be built", *details]))
     for path in programs:
         if not path.exists():
-            raise Failed(f"all is proved, but {path} is not there: remove the folder target and try again")
+            raise Failed(f"all is proved, but {path} is not there: remove the folder crates/{path.name}/out and try again")
     date(programs, begin)
 
 
