@@ -4,8 +4,8 @@
 usage: tools/snake_case.py           renames in every .antt and .rt file below crates/
        tools/snake_case.py --look    says what would fall together, and changes nothing
 
-It was run once, after the toolchain's own script, when the repository came to a newer Rattle. Types, modules, constructors and facts keep their
-capital; a name that a file brings in from a library of the toolchain keeps its spelling, and so do names that Rattle makes.
+It was run once, after the toolchain's own script, when the repository came to a newer Rattle. Types, modules, constructors and facts
+keep their capital; a name that a file brings in from a library of the toolchain keeps its spelling, and so do names that Rattle makes.
 """
 import os
 import re
@@ -74,7 +74,8 @@ def laws(proofs):
         text = uncommented(read(p))
         for m in re.finditer(r"(?m)^\s*(abbrev|unfoldable)\s+(?:pub\s+)?([^\s(){}:]+)", text):
             words.add(m.group(2))
-        fields = {f for b in re.findall(r"(?s)\brecord\b[^\n]*\bwhere\n(.*?)(?=\n\S|\Z)", text) for f in re.findall(r"(?m)^\s+(?:pub\s+)?([^\s(){}:]+)\s*:", b)}
+        records = re.findall(r"(?s)\brecord\b[^\n]*\bwhere\n(.*?)(?=\n\S|\Z)", text)
+        fields = {f for r in records for f in re.findall(r"(?m)^\s+(?:pub\s+)?([^\s(){}:]+)\s*:", r)}
         for m in re.finditer(r"(?m)^\s*(?:pub\s+)?([a-z][^\s(){}:]*)(?:\s*\{[^{}]*\})?\s*:(?!:)", text):
             if m.group(1) not in fields and m.group(1) not in ("abbrev", "unfoldable", "use", "record", "data"):
                 lemmas.setdefault(m.group(1), set()).add(p)
@@ -129,7 +130,10 @@ def renamed(name):
 
 
 def comment_turned(text, own):
-    return re.sub(r"[a-z][a-z0-9]*[A-Z]\w*|(?<=`)[a-z]\w*(?:-\w+)+(?=`)", lambda m: renamed(m.group(0)) if m.group(0) in own else m.group(0), text)
+    def one(m):
+        return renamed(m.group(0)) if m.group(0) in own else m.group(0)
+
+    return re.sub(r"[a-z][a-z0-9]*[A-Z]\w*|(?<=`)[a-z]\w*(?:-\w+)+(?=`)", one, text)
 
 
 def line_turned(line, own, kept, met):
