@@ -179,7 +179,8 @@ module _ (J : Job) (R : Run) (run : IsRun J R) (rest : List ℕ) where
           get_d_tab (suc (r P)) (state_of P bs) t nowhere l ∙ state_back t (omega arith)
 
       turns : (run_of P bs).turns ≡ R.turns
-      turns = ext_get_or false (run_of P bs).turns R.turns (length_tab (r P) (λ t. eqb (group_byte P bs t (2 + n P)) 1) ∙ sym run.turns) λ t h.
+      turns = ext_get_or false (run_of P bs).turns R.turns (length_tab (r P) (λ t. eqb (group_byte P bs t (2 + n P)) 1) ∙ sym run.turns)
+          λ t h.
           let l : t < r P = rw (length_tab (r P) (λ t. eqb (group_byte P bs t (2 + n P)) 1)) at h in
           get_d_tab (r P) (λ t. eqb (group_byte P bs t (2 + n P)) 1) t false l ∙ turn_read t (omega arith) l
 
@@ -188,7 +189,10 @@ module _ (J : Job) (R : Run) (run : IsRun J R) (rest : List ℕ) where
   no_fault h =
       let (_, (_, (holds, _))) = passed _ h in
       let f : ℕ → Bool = λ t. every (bytes_fit P bs t ∷ holds_at J (run_of P bs) t ∷ []) in
-      row_all f (suc (r P)) (all_of f (suc (r P)) λ t l. pass _ (bytes_fit_lem t (omega arith), (rw run_back (all_at (holds_at J R) (suc (r P)) holds t l), tt)))
+      row_all f (suc (r P)) (all_of f (suc (r P)) λ t l. pass _ (
+        bytes_fit_lem t (omega arith),
+        (rw run_back (all_at (holds_at J R) (suc (r P)) holds t l), tt),
+      ))
 
 -- ---- bytes that break no rule
 
@@ -218,7 +222,10 @@ module _ (J : Job) (bs : List ℕ) (whole : run_fault J bs ≡ suc (r J.program)
   unfolding is_run run_of
   fault_free = pass _ (
     eq-eqb _ _ (length_tab (suc (r P')) (state_of P' bs)),
-    (eq-eqb _ _ (length_tab (r P') (λ t. eqb (group_byte P' bs t (2 + n P')) 1)), (all_of (holds_at J R') (suc (r P')) (λ t l. (fits_at t (omega arith)).1), tt)),
+    (
+      eq-eqb _ _ (length_tab (r P') (λ t. eqb (group_byte P' bs t (2 + n P')) 1)),
+      (all_of (holds_at J R') (suc (r P')) (λ t l. (fits_at t (omega arith)).1), tt),
+    ),
   )
 
   module _ (t : ℕ) (l : t ≤ r P') (room : run_length J.program ≤ length bs) where
@@ -231,7 +238,8 @@ module _ (J : Job) (bs : List ℕ) (whole : run_fault J bs ≡ suc (r J.program)
 
     length_part : length part ≡ group_length P'
     unfolding part
-    length_part = length-take-le (group_length P') (drop (t * group_length P') bs) (rw (length-drop (t * group_length P') bs) (omega (arith, row_fits t (r P') (group_length P') l)))
+    length_part = length-take-le (group_length P') (drop (t * group_length P') bs)
+        (rw (length-drop (t * group_length P') bs) (omega (arith, row_fits t (r P') (group_length P') l)))
 
     at_part : (i : ℕ) → i < group_length P' → get_or part i 0 ≡ group_byte P' bs t i
     unfolding part
@@ -246,7 +254,8 @@ module _ (J : Job) (bs : List ℕ) (whole : run_fault J bs ≡ suc (r J.program)
         s : state_at R' t ≡ state_of P' bs t
         s = state_at_lem P' bs t l
 
-        last : Dec (t < r P') → cond (ltb t (r P')) (within 1 2 (group_byte P' bs t (2 + n P'))) (eqb (group_byte P' bs t (2 + n P')) 0) ≡ true
+        last : Dec (t < r P') → cond (ltb t (r P')) (within 1 2 (group_byte P' bs t (2 + n P'))) (eqb (group_byte P' bs t (2 + n P')) 0)
+            ≡ true
             → turn_byte P' R' t ≡ group_byte P' bs t (2 + n P')
         last (yes k) q =
             let v = group_byte P' bs t (2 + n P') in
@@ -260,8 +269,10 @@ module _ (J : Job) (bs : List ℕ) (whole : run_fault J bs ≡ suc (r J.program)
             let j = le-ltb t (r P') (omega arith) in
             rw j (sym (eqb-true _ 0 (rw j at q)))
 
-        go : (i : ℕ) → i < group_length P' → 1 ≤ group_byte P' bs t 0 → 1 ≤ group_byte P' bs t 1 → all (n P') (λ x. leb (group_byte P' bs t (2 + x)) 1) ≡ true
-            → cond (ltb t (r P')) (within 1 2 (group_byte P' bs t (2 + n P'))) (eqb (group_byte P' bs t (2 + n P')) 0) ≡ true → get_or (group P' R' t) i 0 ≡ group_byte P' bs t i
+        go : (i : ℕ) → i < group_length P' → 1 ≤ group_byte P' bs t 0 → 1 ≤ group_byte P' bs t 1
+            → all (n P') (λ x. leb (group_byte P' bs t (2 + x)) 1) ≡ true
+            → cond (ltb t (r P')) (within 1 2 (group_byte P' bs t (2 + n P'))) (eqb (group_byte P' bs t (2 + n P')) 0) ≡ true
+            → get_or (group P' R' t) i 0 ≡ group_byte P' bs t i
         go zero h a b bits turn = at_a P' R' t width ∙ rw s (omega arith)
         go (suc zero) h a b bits turn = at_b P' R' t width ∙ rw s (omega arith)
         go (suc (suc x)) h a b bits turn = by (dec_lt x (n P'))

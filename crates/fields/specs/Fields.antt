@@ -125,8 +125,12 @@ abbrev pub pick_answer : Bool → Field → Field → Field
 pick_answer true a b = a
 pick_answer false a b = b
 
+-- bytes in a line before its LF
+abbrev pub max_columns : ℕ
+max_columns = 1022
+
 -- 2 'line over 1,022 bytes before its LF', 3 'byte outside 32 to 126', 4 'last line lacks LF'
 unfoldable pub whole_line : Row → Field
 whole_line l =
-    pick_answer (ltb 1022 (length l.bytes)) (No 2)
+    pick_answer (ltb max_columns (length l.bytes)) (No 2)
     (pick_answer (plain l.bytes) (pick_answer l.ended Read (No 4)) (No 3))

@@ -74,11 +74,13 @@ module _ (J : Job) where
   words_key [] = refl
   words_key (l ∷ ls) = rw (word_key l, words_key ls)
 
-  words_behind : (ks : List ℕ) → each (length ks) (λ i. word_text J.labels J.names J.program.steps (suc i) (num ks i)) ≡ behind (map word ks)
+  words_behind : (ks : List ℕ) → each (length ks) (λ i. word_text J.labels J.names J.program.steps (suc i) (num ks i))
+      ≡ behind (map word ks)
   unfolding each behind gap_text
   words_behind [] = refl
   words_behind (k ∷ ks) =
-      each_first (length ks) (λ i. word_text J.labels J.names J.program.steps (suc i) (num (k ∷ ks) i)) ∙ ap (λ r. 32 ∷ (word k ++ r)) (words_behind ks)
+      each_first (length ks) (λ i. word_text J.labels J.names J.program.steps (suc i) (num (k ∷ ks) i))
+      ∙ ap (λ r. 32 ∷ (word k ++ r)) (words_behind ks)
 
   line_spaced : (ks : List ℕ) → line ks ≡ spaced (map word ks) ++ (10 ∷ [])
   unfolding line_text spaced each gap_text
@@ -117,7 +119,8 @@ module _ (J : Job) where
   all_named : (n : ℕ) → ((k : ℕ) → k < n → 1 ≤ num J.lengths k) → AllNamed (tab n (lemma J))
   unfolding each
   all_named zero h = tt
-  all_named (suc n) h = named_more (tab n (lemma J)) (lemma J n) (all_named n (λ k l. h k (omega arith))) (lemma_named n (h n (omega arith)))
+  all_named (suc n) h = named_more (tab n (lemma J)) (lemma J n) (all_named n (λ k l. h k (omega arith)))
+      (lemma_named n (h n (omega arith)))
 
   -- ---- the rows of the table's lemmas
 
@@ -134,7 +137,8 @@ module _ (J : Job) where
     unfolding lemma
     row_keys_lem k l =
         let z : ℕ → ℤ = λ i. get_or J.items (k * max_names + i) (pos 0) in
-        tab_same (num J.lengths k) _ (λ i. literal_key (item_of (z i))) (λ i m. key_literal (z i) (not_zero (z i) ((lemma_fits_lem k l).2 i m)))
+        tab_same (num J.lengths k) _ (λ i. literal_key (item_of (z i)))
+        (λ i m. key_literal (z i) (not_zero (z i) ((lemma_fits_lem k l).2 i m)))
         ∙ sym (map_tab literal_key (num J.lengths k) (λ i. item_of (z i)))
 
     rows_keys : all_filed J.items J.lengths J.lemmas ≡ map (λ c. filed_keys (map literal_key c)) (lemmas_of J)
@@ -147,7 +151,8 @@ module _ (J : Job) where
     filed_rows =
         ap in_order rows_keys
         ∙ ap (sort (from_left ltb)) (remaining_keys (lemmas_of J) (all_named J.lemmas (λ k l. (lemma_fits_lem k l).0)))
-        ∙ sort_map (map literal_key) (from_left before) (from_left ltb) (left_map literal_key before ltb key_before) (map (sort before) (remaining (lemmas_of J)))
+        ∙ sort_map (map literal_key) (from_left before) (from_left ltb) (left_map literal_key before ltb key_before)
+        (map (sort before) (remaining (lemmas_of J)))
 
   -- ---- the whole
 
@@ -166,7 +171,8 @@ module _ (J : Job) where
   unfolding form ended
   form_parts text h =
       ended_append (kept (lines text)) (lemmas_word ∷ map (lemma_text J) (filed (lemmas_of J)))
-      ∙ ap (λ r. ended (kept (lines text)) ++ (lemmas_line ++ r)) (sym (lines_ended (filed (lemmas_of J))) ∙ ap lines_of (sym (filed_rows h)))
+      ∙ ap (λ r. ended (kept (lines text)) ++ (lemmas_line ++ r)) (sym (lines_ended (filed (lemmas_of J)))
+      ∙ ap lines_of (sym (filed_rows h)))
 
 -- ---- the parts written one behind the other, each in the room that is left
 
@@ -181,7 +187,11 @@ module _ (text : List ℕ) (J : Job) (old : List ℕ) (h : fit J ≡ true) (room
   fits = omega arith
 
   pub kept_room : length (ended (kept (lines text))) ≤ length old
-  kept_room = omega (arith, going_room {old = old} {whole = form text J} {at = 0} (ended (kept (lines text))) rest going_begins (form_parts J text h) fits)
+  kept_room = omega (
+    arith,
+    going_room {old = old} {whole = form text J} {at = 0} (ended (kept (lines text))) rest going_begins
+        (form_parts J text h) fits,
+  )
 
   module _ {out : List ℕ} {end : ℕ} (e : end ≡ length (ended (kept (lines text)))) (w : out ≡ write old 0 (ended (kept (lines text)))) where
     kept_written : Writing out end rest

@@ -22,7 +22,8 @@ pub gap_none : (old : List ℕ) (at i : ℕ) → i ≡ 0 → Put 1 old at (gap_t
 unfolding gap_text
 gap_none old at i e = rw e (put_most (put_none old at) (omega arith))
 
-pub gap_space : {old new : List ℕ} {at next : ℕ} (i : ℕ) → (i ≡ 0 → ⊥) → Put 1 old at (32 ∷ []) next new → Put 1 old at (gap_text i) next new
+pub gap_space : {old new : List ℕ} {at next : ℕ} (i : ℕ) → (i ≡ 0 → ⊥) → Put 1 old at (32 ∷ []) next new
+    → Put 1 old at (gap_text i) next new
 unfolding gap_text
 gap_space zero e p = absurd (e refl)
 gap_space (suc i) e p = p
@@ -31,7 +32,8 @@ pub sign_none : (old : List ℕ) (at k : ℕ) → k % 2 ≡ 0 → Put 1 old at (
 unfolding sign_text
 sign_none old at k e = rw (eq-eqb (k % 2) 0 e) (put_most (put_none old at) (omega arith))
 
-pub sign_tilde : {old new : List ℕ} {at next : ℕ} (k : ℕ) → (k % 2 ≡ 0 → ⊥) → Put 1 old at (126 ∷ []) next new → Put 1 old at (sign_text k) next new
+pub sign_tilde : {old new : List ℕ} {at next : ℕ} (k : ℕ) → (k % 2 ≡ 0 → ⊥) → Put 1 old at (126 ∷ []) next new
+    → Put 1 old at (sign_text k) next new
 unfolding sign_text
 sign_tilde k e p = rw (ne_eqb (k % 2) 0 e) p
 
@@ -47,7 +49,8 @@ module _ (labels names : List ℕ) (m x : ℕ) where
 -- ---- the names of a line and its LF
 
 pub line_is : {old new : List ℕ} {next most : ℕ} (labels names : List ℕ) (m : ℕ) (ks : List ℕ) (n : ℕ) → length ks ≡ n
-    → Put most old 0 (each n (λ i. word_text labels names m i (num ks i)) ++ (10 ∷ [])) next new → Put most old 0 (line_text labels names m ks) next new
+    → Put most old 0 (each n (λ i. word_text labels names m i (num ks i)) ++ (10 ∷ [])) next new
+    → Put most old 0 (line_text labels names m ks) next new
 unfolding line_text
 line_is labels names m ks n e p = rw e p
 

@@ -17,16 +17,19 @@ module _ {old whole : List ℕ} {at : ℕ} where
   pub going_begins : Going old at whole old at whole
   going_begins = record { place = refl; holds = refl; same = refl }
 
-  pub going_ends : {out left : List ℕ} {end : ℕ} → Going old at whole out end left → left ≡ [] → (end ≡ at + length whole) × (out ≡ write old at whole)
+  pub going_ends : {out left : List ℕ} {end : ℕ} → Going old at whole out end left → left ≡ [] → (end ≡ at + length whole)
+      × (out ≡ write old at whole)
   going_ends {out} {left} {end} g e =
       (omega (arith, g.place, ap length e), write_none out end ∙ ap (write out end) (sym e) ∙ g.holds)
 
   -- the last part is all that is left
-  pub going_last : {out left new : List ℕ} {end next : ℕ} → Going old at whole out end left → next ≡ end + length left → new ≡ write out end left
+  pub going_last : {out left new : List ℕ} {end next : ℕ} → Going old at whole out end left → next ≡ end + length left → new
+      ≡ write out end left
       → (next ≡ at + length whole) × (new ≡ write old at whole)
   going_last g n w = (n ∙ g.place, w ∙ g.holds)
 
-  module _ {out left : List ℕ} {end : ℕ} (part rest : List ℕ) (g : Going old at whole out end left) (e : left ≡ part ++ rest) (room : at + length whole ≤ length old) where
+  module _ {out left : List ℕ} {end : ℕ} (part rest : List ℕ) (g : Going old at whole out end left) (e : left ≡ part ++ rest)
+      (room : at + length whole ≤ length old) where
     pub going_room : end + length part ≤ length out
     going_room = omega (arith, g.place, g.same, ap length e ∙ length-append part rest)
 

@@ -110,8 +110,10 @@ pub(crate) fn put_rows<'a>(
     lengths: &'a [u8; Job::LEMMAS],
     count: usize,
 ) -> usize
-    requires { (count ≤ max_lemmas) × Sized lengths.now count × (at + length (lines_text labels.now names.now m (in_order (all_keys items.now lengths.now count))) ≤ length out.old) }
-    ensures { (result ≡ at + length (lines_text labels.now names.now m (in_order (all_keys items.now lengths.now count)))) × (out.new ≡ write out.old at (lines_text labels.now names.now m (in_order (all_keys items.now lengths.now count)))) }
+    requires { (count ≤ max_lemmas) × Sized lengths.now count
+        × (at + length (lines_text labels.now names.now m (in_order (all_keys items.now lengths.now count))) ≤ length out.old) }
+    ensures { (result ≡ at + length (lines_text labels.now names.now m (in_order (all_keys items.now lengths.now count))))
+        × (out.new ≡ write out.old at (lines_text labels.now names.now m (in_order (all_keys items.now lengths.now count)))) }
 {
     let mut line = [0u8; 6 * Job::NAMES + 1];
     let mut last = none();

@@ -28,18 +28,6 @@ pub minus_fits : (z : ℤ) → lt_z z (pos 0) ≡ true → SFits w16 z → SFits
 minus_fits (pos x) h f = absurd (not-suc-le-zero (ltb-true x 0 h))
 minus_fits (negsuc x) h f = subst (λ (z : ℤ). SFits w16 z) (sym (minus_one (negsuc x) h)) (record { sfits = f.sfits })
 
-pub sign : (z : ℤ) → lt_z z (pos 0) ≡ false → T (non_neg z)
-sign (pos x) h = tt
-sign (negsuc x) h = subst T h tt
-
-pub under_most : (z : ℤ) → SFits w16 z → under z < 32768
-under_most (pos x) f = omega arith
-under_most (negsuc x) f = f.sfits
-
-pub size_most : (z : ℤ) → SFits w16 z → nat_abs z < 32769
-size_most (pos x) f = let k : x < 32768 = f.sfits in omega arith
-size_most (negsuc x) f = let k : x < 32768 = f.sfits in omega arith
-
 pub item_off : (w : ℕ) (z y : ℤ) → lt_z z (pos 0) ≡ true → y ≡ pos (under z) → ltb (nat_abs y) w ≡ item_fits w z
 unfolding item_fits
 item_off w (pos x) y h e = absurd (not-suc-le-zero (ltb-true x 0 h))
@@ -49,7 +37,3 @@ pub item_on : (w : ℕ) (z : ℤ) (b : Bool) → lt_z z (pos 0) ≡ false → b 
 unfolding item_fits
 item_on w (pos x) b h e = e
 item_on w (negsuc x) b h e = absurd (true≢false h)
-
-pub zero_is : (z : ℤ) → SFits w16 z → eqb (of_z w16 z) 0 ≡ is_zero z
-zero_is (pos x) f = refl
-zero_is (negsuc x) f = let k : x < 32768 = f.sfits in ne_eqb (of_z w16 (negsuc x)) 0 (λ e. omega arith)

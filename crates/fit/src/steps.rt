@@ -1,7 +1,8 @@
 // The steps of a table: each by its kind, those past the last one 0, and as many variables as they mention.
 ghost use Rattle.std.specs.Prelude.{◌≡◌, ◌≤◌, ◌<◌};
 ghost use Rattle.job.specs.Limits.{max_steps};
-ghost use Rattle.job.specs.Fitness.{larger, is_step, other_fits, variable_fits, value_fits, used_step, unused_step, mentioned, step_fits, steps_fit};
+ghost use Rattle.job.specs.Fitness.{larger, is_step, other_fits, variable_fits, value_fits, used_step, unused_step, mentioned, step_fits};
+ghost use Rattle.job.specs.Fitness.{steps_fit};
 
 use super::range::in_range;
 use job::{Job, Program};

@@ -39,7 +39,8 @@ use Rattle.form.proofs.Line1Laws.{line1}
 -- ---- a text by its lines
 
 -- behind some lines the text goes on with the others
-lines_behind : (text : List ℕ) (at : ℕ) (front rest : List Row) → lines (drop at text) ≡ front ++ rest → lines (drop (at + rows_long front) text) ≡ rest
+lines_behind : (text : List ℕ) (at : ℕ) (front rest : List Row) → lines (drop at text) ≡ front ++ rest
+    → lines (drop (at + rows_long front) text) ≡ rest
 unfolding weight
 lines_behind text at [] rest e = let q : at + 0 ≡ at = omega arith in ap (λ k. lines (drop k text)) q ∙ e
 lines_behind text at (l ∷ front) rest e =
@@ -58,7 +59,8 @@ module _ (text : List ℕ) (l : Row) (front rest : List Row) (r word k : ℕ) (d
   unfolding reading from_lemmas
   reading_is =
       let z : 0 + long l.bytes ≡ long l.bytes = omega arith in
-      let behind : lines (drop (long l.bytes) text) ≡ front ++ rest = ap (λ n. lines (drop n text)) (sym z) ∙ lines_next text 0 l (front ++ rest) split in
+      let behind : lines (drop (long l.bytes) text) ≡ front ++ rest = ap (λ n. lines (drop n text)) (sym z)
+      ∙ lines_next text 0 l (front ++ rest) split in
       ap (λ (o : Outcome). from_lemmas text o.end o.draft) program_is
       ∙ ap (λ ls. then (at_lemmas d k) λ j. lemma_lines j k ls) (lines_behind text (long l.bytes) front rest behind)
 
@@ -93,7 +95,8 @@ ends_told text h = go (program_of text).end (program_of text).draft h
     go (Lemmas n at) d h = tt
     go (Refused number place) d h = not_ok number place h
 
-module _ (text : List ℕ) (h : IsJob text) (l : Row) (ls : List Row) (split : lines text ≡ l ∷ ls) (size : within 1 max_text (length text) ≡ true)
+module _ (text : List ℕ) (h : IsJob text) (l : Row) (ls : List Row) (split : lines text ≡ l ∷ ls) (size : within 1 max_text (length text)
+    ≡ true)
     (w : whole_line l ≡ Read) (r word : ℕ) (b : first_line l.bytes line1 ≡ Bound r word) (R : Reads (blank r word) 1 ls) where
   told_by : Told text
   told_by =

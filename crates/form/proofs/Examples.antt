@@ -49,10 +49,14 @@ one_bit : filed_as
     "bound 1\n~ one bit\nA0 a=1 goto A0\nB0 maybe goto B0\nlemmas\n~a  A0 a\nB0 A0  B0\n A0 B0\nA0\n~A0\na ~B0 ~B0\n"
     "bound 1\nA0 a=1 goto A0\nB0 maybe goto B0\nlemmas\nA0\nA0 B0\n~A0\n~B0 a\n"
 unfolding bytes remaining filed both_signs has sort insert from_left keep kept name_of spelt spaced ended form name_at lemma_at every all
-    within each passing first first_of both_critical cut up_to all_of starts is alnum headed rows lines entry_is lookup word_field fixed_field
-    bit_field range_field end_field bound_end_field whole_line first_line number_at value_of word_of then_first fresh bit_of else_line end_line goto_line
-    test_line kind_line step_line then_step blank mention_at process_of other_end enter add_step is_lemmas is_comment stepped program_line pick_lined
-    whole_program_line follow program opened from_line1 program_of whole_line1 without_lemmas by target_of aim enter_to enter_other on link_step
+    within each passing first first_of both_critical cut up_to all_of starts is alnum headed rows lines entry_is lookup word_field
+    fixed_field
+    bit_field range_field end_field bound_end_field whole_line first_line number_at value_of word_of then_first fresh bit_of else_line
+    end_line goto_line
+    test_line kind_line step_line then_step blank mention_at process_of other_end enter add_step is_lemmas is_comment stepped
+    program_line pick_lined
+    whole_program_line follow program opened from_line1 program_of whole_line1 without_lemmas by target_of aim enter_to enter_other on
+    link_step
     link started at_lemmas filled words bare named_in named lemma whole lemma_line lemma_lines from_lemmas reading
 one_bit = refl
 
@@ -60,9 +64,13 @@ all_dropped : filed_as
     "bound 12 crash\nA0 maybe goto A0\n~\nB0 critical goto B0\nlemmas\nA0 ~A0\n"
     "bound 12 crash\nA0 maybe goto A0\nB0 critical goto B0\nlemmas\n"
 unfolding bytes remaining filed both_signs has sort insert from_left keep kept name_of spelt spaced ended form name_at lemma_at every all
-    within each passing first first_of both_critical cut up_to all_of starts is alnum headed rows lines entry_is lookup word_field fixed_field
-    bit_field range_field end_field bound_end_field whole_line first_line number_at value_of word_of then_first fresh bit_of else_line end_line goto_line
-    test_line kind_line step_line then_step blank mention_at process_of other_end enter add_step is_lemmas is_comment stepped program_line pick_lined
-    whole_program_line follow program opened from_line1 program_of whole_line1 without_lemmas by target_of aim enter_to enter_other on link_step
+    within each passing first first_of both_critical cut up_to all_of starts is alnum headed rows lines entry_is lookup word_field
+    fixed_field
+    bit_field range_field end_field bound_end_field whole_line first_line number_at value_of word_of then_first fresh bit_of else_line
+    end_line goto_line
+    test_line kind_line step_line then_step blank mention_at process_of other_end enter add_step is_lemmas is_comment stepped
+    program_line pick_lined
+    whole_program_line follow program opened from_line1 program_of whole_line1 without_lemmas by target_of aim enter_to enter_other on
+    link_step
     link started at_lemmas filled words bare named_in named lemma whole lemma_line lemma_lines from_lemmas reading
 all_dropped = refl

@@ -6,6 +6,7 @@ use mathlib.Core.List.{List, [], ◌∷◌, map}
 use Prim.Native.Nat.{ℕ, ◌≤◌}
 use native.Mathlib.Omega.{arith}
 use lib.ListN.{length, length-map}
+use Rattle.fields.specs.Fields.{max_columns}
 use Rattle.lists.specs.Tests.{every, within}
 use Rattle.lists.proofs.Logic.{and_left, and_right}
 use Rattle.lists.proofs.TestLaws.{is_within}
@@ -24,7 +25,8 @@ use Rattle.form.specs.Lemmas.{before, filed}
 use Rattle.form.specs.Form.{spelt, lemma_text}
 use Rattle.form.proofs.LiteralLaws.{before_order}
 use Rattle.form.proofs.FiledLaws.{in_filed, in_remaining, filed_weight, filed_count}
-use Rattle.form.proofs.WrittenLaws.{Free, Word, long, as_rows, words_spaced, length_spaced, spaced_byte, word_byte, words_are, words_weight, whole_told, whole_is}
+use Rattle.form.proofs.WrittenLaws.{Free, Word, long, as_rows, words_spaced, length_spaced, spaced_byte, word_byte, words_are}
+use Rattle.form.proofs.WrittenLaws.{words_weight, whole_told, whole_is}
 use Rattle.form.proofs.SpellingLaws.{literal_of, Known, spelt_back}
 use Rattle.form.proofs.LemmaLineLaws.{Sound, AllSound, literals}
 use Rattle.form.proofs.ProgramAgainLaws.{rows_long}
@@ -92,7 +94,7 @@ module _ (J : Job) where
     names : (z : Literal) → In z c → Writable z
     some : 1 ≤ length c
     few : length c ≤ max_names
-    short : length (lemma_text J c) ≤ 1022
+    short : length (lemma_text J c) ≤ max_columns
 
   text_long : (c : Clause) → 1 ≤ length c → long (lemma_text J c) ≡ weight (λ z. long (spelt J z)) c
   text_long [] h = absurd (omega arith)

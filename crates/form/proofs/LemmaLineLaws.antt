@@ -138,7 +138,8 @@ module _ (n : ℕ) where
       let room : k < max_names = leb-false max_names k b in
       let z : Known J w = named_told J k _ (negated w) x (item_one J (bare w)) g in
       let next = lemma_on J n k w ws (item_number x) room (known_item x z) in
-      let (known, some, few) = lemma_told (with_item J k (value J w)) (k + 1) ws (omega arith) (ap (λ (r : Reading). r.verdict) (sym next) ∙ h) in
+      let (known, some, few) = lemma_told (with_item J k (value J w)) (k + 1) ws (omega arith)
+      (ap (λ (r : Reading). r.verdict) (sym next) ∙ h) in
       ((λ v m. either v z known m), omega arith, omega arith)
     where
       either : (v : List ℕ) → Known J w → ((u : List ℕ) → In u ws → Known J u) → (v ≡ w) ⊎ In v ws → Known J v
@@ -153,7 +154,8 @@ module _ (n : ℕ) where
   line_is : (J : Job) (l : Row) → J.lemmas < max_lemmas → Sound J l → lemma_line J l n ≡ accept (with_line J l)
   unfolding lemma_line whole
   line_is J l room s =
-      rw (s.whole_line, lt-leb max_lemmas J.lemmas room) (lemma_is J 0 (words l.bytes) s.known (omega (arith, s.some)) (omega (arith, s.few)))
+      rw (s.whole_line, lt-leb max_lemmas J.lemmas room)
+      (lemma_is J 0 (words l.bytes) s.known (omega (arith, s.some)) (omega (arith, s.few)))
 
   line_told : (J : Job) (l : Row) → Ok (lemma_line J l n) → (J.lemmas < max_lemmas) × Sound J l
   unfolding lemma_line
@@ -174,20 +176,23 @@ sound_back : (J : Job) (l k : Row) → Sound (with_line J l) k → Sound J k
 sound_back J l k s = record { whole_line = s.whole_line; known = s.known; some = s.some; few = s.few }
 
 -- as many as there is room for are accepted
-pub lines_are : (J : Job) (n : ℕ) (ls : List Row) → J.lemmas + length ls ≤ max_lemmas → AllSound J ls → lemma_lines J n ls ≡ accept (with_lines J ls)
+pub lines_are : (J : Job) (n : ℕ) (ls : List Row) → J.lemmas + length ls ≤ max_lemmas → AllSound J ls → lemma_lines J n ls
+    ≡ accept (with_lines J ls)
 unfolding lemma_lines with_lines by
 lines_are J n [] room h = refl
 lines_are J n (l ∷ ls) room h =
     ap (λ r. then r λ e. lemma_lines e (n + 1) ls) (line_is (n + 1) J l (omega arith) (h l (inl refl)))
     ∙ lines_are (with_line J l) (n + 1) ls (omega arith) (λ k i. sound_on J l k (h k (inr i)))
 
-pub lines_told : (J : Job) (n : ℕ) (ls : List Row) → J.lemmas ≤ max_lemmas → Ok (lemma_lines J n ls) → (J.lemmas + length ls ≤ max_lemmas) × AllSound J ls
+pub lines_told : (J : Job) (n : ℕ) (ls : List Row) → J.lemmas ≤ max_lemmas → Ok (lemma_lines J n ls)
+    → (J.lemmas + length ls ≤ max_lemmas) × AllSound J ls
 unfolding lemma_lines by
 lines_told J n [] room h = (omega arith, λ l i. absurd i)
 lines_told J n (l ∷ ls) room h =
     let (a, q) = then_ok (lemma_line J l (n + 1)) (λ e. lemma_lines e (n + 1) ls) h in
     let (few, s) = line_told (n + 1) J l a in
-    let next : lemma_lines J n (l ∷ ls) ≡ lemma_lines (with_line J l) (n + 1) ls = ap (λ r. then r λ e. lemma_lines e (n + 1) ls) (line_is (n + 1) J l few s) in
+    let next : lemma_lines J n (l ∷ ls) ≡ lemma_lines (with_line J l) (n + 1) ls = ap (λ r. then r λ e. lemma_lines e (n + 1) ls)
+    (line_is (n + 1) J l few s) in
     let (count, rest) = lines_told (with_line J l) (n + 1) ls (omega arith) (ap (λ (r : Reading). r.verdict) (sym next) ∙ h) in
     (omega arith, λ k i. each k s rest i)
   where
@@ -197,7 +202,8 @@ lines_told J n (l ∷ ls) room h =
 
 -- ---- what they change
 
-pub lines_keep : (J : Job) (ls : List Row) → ((with_lines J ls).program ≡ J.program) × ((with_lines J ls).labels ≡ J.labels) × ((with_lines J ls).names ≡ J.names)
+pub lines_keep : (J : Job) (ls : List Row) → ((with_lines J ls).program ≡ J.program) × ((with_lines J ls).labels ≡ J.labels)
+    × ((with_lines J ls).names ≡ J.names)
 unfolding with_lines
 lines_keep J [] = (refl, refl, refl)
 lines_keep J (l ∷ ls) = lines_keep (with_line J l) ls
@@ -221,7 +227,8 @@ module _ (f : List ℕ → ℤ) where
   words_size p (w ∷ ws) items = words_size (p + 1) ws (set items p (f w)) ∙ length-set items p (f w)
 
   -- a place before theirs
-  words_before : (p : ℕ) (ws : List (List ℕ)) (items : List ℤ) (i : ℕ) → i < p → get_or (with_words f p ws items) i (pos 0) ≡ get_or items i (pos 0)
+  words_before : (p : ℕ) (ws : List (List ℕ)) (items : List ℤ) (i : ℕ) → i < p → get_or (with_words f p ws items) i (pos 0)
+      ≡ get_or items i (pos 0)
   unfolding with_words
   words_before p [] items i l = refl
   words_before p (w ∷ ws) items i l =
@@ -237,8 +244,10 @@ module _ (f : List ℕ → ℤ) where
       let all = with_words f (p + 1) ws items' in
       let at : p + 0 ≡ p = omega arith in
       let first : get_or all (p + 0) (pos 0) ≡ f w =
-      ap (λ i. get_or all i (pos 0)) at ∙ words_before (p + 1) ws items' p (omega arith) ∙ get_or-set_same items p (f w) (pos 0) (omega arith) in
-      let rest : tab (length ws) (λ i. literal (get_or all (p + suc i) (pos 0))) ≡ tab (length ws) (λ i. literal (get_or all (p + 1 + i) (pos 0))) =
+      ap (λ i. get_or all i (pos 0)) at ∙ words_before (p + 1) ws items' p (omega arith)
+      ∙ get_or-set_same items p (f w) (pos 0) (omega arith) in
+      let rest : tab (length ws) (λ i. literal (get_or all (p + suc i) (pos 0)))
+      ≡ tab (length ws) (λ i. literal (get_or all (p + 1 + i) (pos 0))) =
       tab_same (length ws) _ _ (λ i h. let e : p + suc i ≡ p + 1 + i = omega arith in ap (λ j. literal (get_or all j (pos 0))) e) in
       tab_front (length ws) (λ i. literal (get_or all (p + i) (pos 0)))
       ∙ ap (λ z. literal z ∷ tab (length ws) (λ i. literal (get_or all (p + suc i) (pos 0)))) first
@@ -287,7 +296,8 @@ module _ (J : Job) (S : Sized J) (l : Row) (room : J.lemmas < max_lemmas) (few :
   unfolding lemma_at
   lemma_new =
       ap (λ c. tab c (λ i. literal (get_or after.items (J.lemmas * max_names + i) (pos 0)))) length_new
-      ∙ tab_same (length ws) _ _ (λ i b. let e : J.lemmas * max_names + i ≡ J.lemmas * max_names + 0 + i = omega arith in ap (λ p. literal (get_or after.items p (pos 0))) e)
+      ∙ tab_same (length ws) _ _ (λ i b. let e : J.lemmas * max_names + i ≡ J.lemmas * max_names + 0 + i = omega arith in
+      ap (λ p. literal (get_or after.items p (pos 0))) e)
       ∙ words_there (value J) (J.lemmas * max_names + 0) ws J.items (omega (arith, S.items_size))
 
   line_adds : lemmas_of after ≡ lemmas_of J ++ (literals J l ∷ [])

@@ -76,7 +76,8 @@ range_told s at e = go (within 49 57 (num s at.column)) e
     n : ℕ
     n = cond (digit (num s (at.column + 1))) 2 1
 
-    go : (b : Bool) → (pick_field b (went at n) (refuse at 5)).field ≡ Read → (b ≡ true) × (pick_field b (went at n) (refuse at 5) ≡ went at n)
+    go : (b : Bool) → (pick_field b (went at n) (refuse at 5)).field ≡ Read → (b ≡ true)
+        × (pick_field b (went at n) (refuse at 5) ≡ went at n)
     go true e = (refl, refl)
     go false e = not_read 5 e
 

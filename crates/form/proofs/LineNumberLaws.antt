@@ -21,7 +21,8 @@ use Rattle.fields.specs.declared.Cursor.{Cursor}
 use Rattle.fields.specs.declared.Moved.{Moved}
 use Rattle.fields.specs.declared.Field.{Field}
 use Rattle.fields.specs.declared.Field.TheVariants.{Read, No}
-use Rattle.lines.specs.StepLine.{then, after, pick, fresh, begun, tested, going, or_else, bit_of, else_line, end_line, goto_line, test_line, on, maybe_word, critical_word, if_word, kind_line, step_line}
+use Rattle.lines.specs.StepLine.{then, after, pick, fresh, begun, tested, going, or_else, bit_of, else_line, end_line, goto_line}
+use Rattle.lines.specs.StepLine.{test_line, on, maybe_word, critical_word, if_word, kind_line, step_line}
 use Rattle.lines.specs.declared.Step.{Step}
 use Rattle.lines.specs.declared.StepLine.{StepLine}
 use Rattle.lines.specs.declared.StepLine.TheVariants.{Line}
@@ -182,7 +183,8 @@ is_accepted (Denied r) = ⊥
 denied : {A : Type 0} (r : Refusal) → Denied r ≡ Accepted → A
 denied r e = absurd (subst is_accepted (sym e) tt)
 
-then_link_lem : (l : Linked) (rest : Program → Linked) → (then_link l rest).verdict ≡ Accepted → (l.verdict ≡ Accepted) × (then_link l rest ≡ rest l.program)
+then_link_lem : (l : Linked) (rest : Program → Linked) → (then_link l rest).verdict ≡ Accepted → (l.verdict ≡ Accepted)
+    × (then_link l rest ≡ rest l.program)
 unfolding on_linked
 then_link_lem l rest h = go l.verdict l.program h
   where
@@ -219,7 +221,8 @@ module _ (d : Draft) (ns : List ℕ) where
   step_alike k P h =
       then_alike _ _ _ _ h (λ a. to_alike P k _ _ _ a) λ Q a. go (has_other (num d.program.kind k)) Q a
     where
-      go : (b : Bool) (Q : Program) → (pick_linked b (enter_other Q k (num d.line k) (aim d d.other k)) (linked Accepted Q)).verdict ≡ Accepted
+      go : (b : Bool) (Q : Program) → (pick_linked b (enter_other Q k (num d.line k) (aim d d.other k)) (linked Accepted Q)).verdict
+          ≡ Accepted
           → pick_linked b (enter_other Q k (num ns k) (aim d d.other k)) (linked Accepted Q)
           ≡ pick_linked b (enter_other Q k (num d.line k) (aim d d.other k)) (linked Accepted Q)
       go true Q a = other_alike Q k _ _ _ a

@@ -24,10 +24,12 @@ use Rattle.form.proofs.LineNumberLaws.{relined, at_start}
 use Rattle.form.proofs.KeptLaws.{joined}
 use Rattle.form.proofs.Line1Laws.{line1, line1_same}
 use Rattle.form.proofs.AcceptedLaws.{Told, told}
-use Rattle.form.proofs.ReadAgainLaws.{Named, texts_same, table_is, kept_lines, form_shorter, form_accepted, form_kept, form_program, form_named, form_lemmas}
+use Rattle.form.proofs.ReadAgainLaws.{Named, texts_same, table_is, kept_lines, form_shorter, form_accepted, form_kept, form_program}
+use Rattle.form.proofs.ReadAgainLaws.{form_named, form_lemmas}
 
 -- forms of the same kept lines, names and filed lemmas
-form_same : (a b : List ℕ) (J K : Job) → kept (lines b) ≡ kept (lines a) → Named J K → filed (lemmas_of K) ≡ filed (lemmas_of J) → form b K ≡ form a J
+form_same : (a b : List ℕ) (J K : Job) → kept (lines b) ≡ kept (lines a) → Named J K → filed (lemmas_of K) ≡ filed (lemmas_of J)
+    → form b K ≡ form a J
 unfolding form
 form_same a b J K k n f =
     ap (λ x. ended (x ++ (lemmas_word ∷ map (lemma_text K) (filed (lemmas_of K))))) k
@@ -50,7 +52,8 @@ line1_table text T =
 
 -- and its names are those of the draft at `lemmas`
 names_are : (text : List ℕ) (T : Told text)
-    → ((job_of text).program.steps ≡ T.reads.start.program.steps) × ((job_of text).labels ≡ T.reads.start.labels) × ((job_of text).names ≡ T.reads.start.names)
+    → ((job_of text).program.steps ≡ T.reads.start.program.steps) × ((job_of text).labels ≡ T.reads.start.labels)
+    × ((job_of text).names ≡ T.reads.start.names)
 unfolding without_lemmas
 names_are text T =
     let d = T.reads.start in

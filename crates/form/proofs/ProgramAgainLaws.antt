@@ -75,7 +75,8 @@ module _ (d : Draft) (s : List ℕ) (p : Step) (n : ℕ) where
   added_relined ns m = go (has_variable p.kind)
     where
       mentioned : (f : Found)
-          → enter (mention_at (relined d ns) variable_of f) s p m ≡ relined (enter (mention_at d variable_of f) s p n) (set ns d.program.steps m)
+          → enter (mention_at (relined d ns) variable_of f) s p m ≡ relined (enter (mention_at d variable_of f) s p n)
+          (set ns d.program.steps m)
       mentioned (At i) = refl
       mentioned Nothing = refl
 
@@ -115,7 +116,8 @@ module _ (d : Draft) (at n : ℕ) (l : Row) (ls : List Row) (w : whole_line l �
   program_step : (p : Step) → Stepping d l (n + 1) p → program d at n (l ∷ ls) ≡ program (add_step d l.bytes p (n + 1)) next (n + 1) ls
   unfolding follow whole program_line pick stepped
   program_step p s =
-      program_line_lem d at n l ls (lined More (add_step d l.bytes p (n + 1))) next (rw (w, s.no_lemmas, s.no_comment, s.room, s.says)) behind
+      program_line_lem d at n l ls (lined More (add_step d l.bytes p (n + 1))) next (rw (w, s.no_lemmas, s.no_comment, s.room, s.says))
+      behind
 
 -- ---- which lines do not end the reading
 
@@ -214,7 +216,8 @@ module _ (d : Draft) (n : ℕ) (l : Row) (ls : List Row) (w : whole_line l ≡ R
           → program (relined d ns) at m (joined [] tail) ≡ reached (m + 1) (at + 0 + long lemmas_word) (relined d ns)
       ended ns at m tail =
           let place : at + long lemmas_word ≡ at + 0 + long lemmas_word = omega arith in
-          program_lemmas (relined d ns) at m (row lemmas_word true) tail lemmas_whole is_lemmas_lem ∙ ap (λ k. reached (m + 1) k (relined d ns)) place
+          program_lemmas (relined d ns) at m (row lemmas_word true) tail lemmas_whole is_lemmas_lem
+          ∙ ap (λ k. reached (m + 1) k (relined d ns)) place
 
   -- the lines behind it are read
   onward : (e : Draft) (r : Reads e (n + 1) ls) → ((at : ℕ) → program d at n (l ∷ ls) ≡ program e (at + long l.bytes) (n + 1) ls)
@@ -264,7 +267,8 @@ module _ (d : Draft) (n : ℕ) (l : Row) (ls : List Row) (w : whole_line l ≡ R
         no_lemmas = s.no_lemmas;
         no_comment = s.no_comment;
         room = s.room;
-        says = step_steady l.bytes d.labels d.program.steps (record { line = m; column = 0 }) (record { line = n + 1; column = 0 }) refl ∙ s.says;
+        says = step_steady l.bytes d.labels d.program.steps (record { line = m; column = 0 }) (record { line = n + 1; column = 0 }) refl
+            ∙ s.says;
       }
 
       again : (ns : List ℕ) (at m : ℕ) (tail : List Row)
@@ -272,7 +276,8 @@ module _ (d : Draft) (n : ℕ) (l : Row) (ls : List Row) (w : whole_line l ≡ R
           → Leads (relined d ns) at m (l.bytes ∷ kept ls) tail r.start
       again ns at m tail (k, ms, q) =
           let there = at + long l.bytes in
-          let place : there + weight long (kept ls) + long lemmas_word ≡ at + (long l.bytes + weight long (kept ls)) + long lemmas_word = omega arith in (
+          let place : there + weight long (kept ls) + long lemmas_word ≡ at + (long l.bytes + weight long (kept ls)) + long lemmas_word =
+          omega arith in (
             k,
             ms,
             program_step (relined d ns) at m (row l.bytes true) (joined (kept ls) tail) (whole_ended l w) p (same ns (m + 1))

@@ -206,7 +206,8 @@ module _ (text : List ℕ) (T : Told text) where
       let place : n + weight long behind + long lemmas_word ≡ n + rows_long up_to = omega (arith, up_to_long) in
       let goes : program (blank T.bound T.word) n 1 (up_to ++ as_rows written) ≡ reached k (n + rows_long up_to) d =
       ap (program (blank T.bound T.word) n 1) (sym parts) ∙ q ∙ ap (λ p. reached k p d) place in
-      let room : base.lemmas + length (as_rows written) ≤ max_lemmas = omega (arith, no_lemmas draft, filed_fewer base rest T.sound, T.few) in
+      let room : base.lemmas + length (as_rows written) ≤ max_lemmas =
+      omega (arith, no_lemmas draft, filed_fewer base rest T.sound, T.few) in
       reading_is (form_of text) (row T.first.bytes true) up_to (as_rows written) T.bound T.word k d form_size
       (form_lines_lem ∙ ap (λ x. row T.first.bytes true ∷ x) parts) (whole_ended T.first T.whole_first) T.line1_is goes
       ∙ ap (λ r. then r λ j. lemma_lines j k (as_rows written)) (passes_are d k (passes_relined draft ms T.passes))
@@ -234,13 +235,16 @@ module _ (text : List ℕ) (T : Told text) where
 
   pub form_program : (job_of (form_of text)).program ≡ (job_of text).program
   form_program =
-      ap (λ (j : Job). j.program) form_table ∙ (lines_keep base (as_rows written)).0 ∙ sym (ap (λ (j : Job). j.program) table_is ∙ (lines_keep base rest).0)
+      ap (λ (j : Job). j.program) form_table ∙ (lines_keep base (as_rows written)).0
+      ∙ sym (ap (λ (j : Job). j.program) table_is ∙ (lines_keep base rest).0)
 
   pub form_named : Named (job_of text) (job_of (form_of text))
   form_named = record {
     steps = ap (λ (P : Program). P.steps) form_program;
-    labels = ap (λ (j : Job). j.labels) form_table ∙ (lines_keep base (as_rows written)).1 ∙ sym (ap (λ (j : Job). j.labels) table_is ∙ (lines_keep base rest).1);
-    names = ap (λ (j : Job). j.names) form_table ∙ (lines_keep base (as_rows written)).2 ∙ sym (ap (λ (j : Job). j.names) table_is ∙ (lines_keep base rest).2);
+    labels = ap (λ (j : Job). j.labels) form_table ∙ (lines_keep base (as_rows written)).1
+        ∙ sym (ap (λ (j : Job). j.labels) table_is ∙ (lines_keep base rest).1);
+    names = ap (λ (j : Job). j.names) form_table ∙ (lines_keep base (as_rows written)).2
+        ∙ sym (ap (λ (j : Job). j.names) table_is ∙ (lines_keep base rest).2);
   }
 
   pub form_lemmas : lemmas_of (job_of (form_of text)) ≡ filed (lemmas_of (job_of text))

@@ -62,6 +62,7 @@ module _ (J K : Job) (program : K.program ≡ J.program) (lemmas : lemmas_of K �
   pub runs_same : (R : Run) → is_run K R ≡ is_run J R
   unfolding is_run
   runs_same R =
-      ap (λ n. every (eqb (length R.states) (suc n) ∷ eqb (length R.turns) n ∷ all (suc n) (holds_at K R) ∷ [])) (ap (λ (P : Program). r P) program)
+      ap (λ n. every (eqb (length R.states) (suc n) ∷ eqb (length R.turns) n ∷ all (suc n) (holds_at K R) ∷ []))
+      (ap (λ (P : Program). r P) program)
       ∙ ap (λ b. every (eqb (length R.states) (suc (r J.program)) ∷ eqb (length R.turns) (r J.program) ∷ b ∷ []))
       (all_same (suc (r J.program)) (holds_at K R) (holds_at J R) (λ t l. holds_same R t))

@@ -91,7 +91,12 @@ trimmed (a ∷ []) h f = rw (ne_eqb a 0 (f a (inl refl)))
 trimmed (a ∷ b ∷ []) h f = rw (ne_eqb a 0 (f a (inl refl)), ne_eqb b 0 (f b (inr (inl refl))))
 trimmed (a ∷ b ∷ c ∷ []) h f = rw (ne_eqb a 0 (f a (inl refl)), ne_eqb b 0 (f b (inr (inl refl))), ne_eqb c 0 (f c (inr (inr (inl refl)))))
 trimmed (a ∷ b ∷ c ∷ d ∷ []) h f =
-    rw (ne_eqb a 0 (f a (inl refl)), ne_eqb b 0 (f b (inr (inl refl))), ne_eqb c 0 (f c (inr (inr (inl refl)))), ne_eqb d 0 (f d (inr (inr (inr (inl refl))))))
+    rw (
+      ne_eqb a 0 (f a (inl refl)),
+      ne_eqb b 0 (f b (inr (inl refl))),
+      ne_eqb c 0 (f c (inr (inr (inl refl)))),
+      ne_eqb d 0 (f d (inr (inr (inr (inl refl))))),
+    )
 trimmed (a ∷ b ∷ c ∷ d ∷ e ∷ w) h f = absurd (omega arith)
 
 entry_spelt : (names : List ℕ) (w : List ℕ) (i : ℕ) → length w ≤ 4 → Free 0 w → entry_is names w i ≡ true → name_at names i ≡ w
@@ -109,7 +114,8 @@ entry_spelt names w i h f e =
 
 name_spelt : (J : Job) (w : List ℕ) (x : ℕ) → Free 0 w → item_of J w ≡ suc x → name_of J x ≡ w
 unfolding named_in name_of
-name_spelt J w x f e = go (within 1 4 (length w)) refl (lookup J.labels J.program.steps w) refl (lookup J.names J.program.variables w) refl e
+name_spelt J w x f e = go (within 1 4 (length w)) refl (lookup J.labels J.program.steps w) refl (lookup J.names J.program.variables w)
+    refl e
   where
     go : (b : Bool) → within 1 4 (length w) ≡ b → (g : Found) → lookup J.labels J.program.steps w ≡ g
         → (h : Found) → lookup J.names J.program.variables w ≡ h
@@ -132,7 +138,8 @@ no_name J = refl
 
 module _ (J : Job) where
   -- behind a sign, or without one
-  sign_spelt : (negative : Bool) (w : List ℕ) (x : ℕ) → Free 0 w → item_of J w ≡ x → (x ≡ 0 → ⊥) → spelt J (literal (signed negative x)) ≡ cond negative (126 ∷ w) w
+  sign_spelt : (negative : Bool) (w : List ℕ) (x : ℕ) → Free 0 w → item_of J w ≡ x → (x ≡ 0 → ⊥) → spelt J (literal (signed negative x))
+      ≡ cond negative (126 ∷ w) w
   unfolding spelt
   sign_spelt negative w zero f e z = absurd (z refl)
   sign_spelt true w (suc x) f e z = ap (λ l. 126 ∷ l) (name_spelt J w x f e)

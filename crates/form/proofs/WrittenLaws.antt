@@ -16,7 +16,7 @@ use Rattle.order.proofs.WeightLaws.{weight}
 use Rattle.scan.specs.Bytes.{word_at, plain}
 use Rattle.scan.specs.Lines.{Row, row, rows, lines}
 use Rattle.scan.proofs.LineLaws.{lines_at, lines_out}
-use Rattle.fields.specs.Fields.{pick_answer, whole_line}
+use Rattle.fields.specs.Fields.{max_columns, pick_answer, whole_line}
 use Rattle.fields.specs.declared.Field.TheVariants.{Read, No}
 use Rattle.fields.proofs.CursorLaws.{not_read}
 use Rattle.program.proofs.ProgramLaws.{line_ends}
@@ -110,7 +110,8 @@ listed (last p) = p ∷ []
 listed (piece p ps) = p ∷ listed ps
 
 -- one byte more is put in front of one piece
-onto_listed : (x : ℕ) (ps : Pieces) (p : List ℕ) → In p (listed (onto x ps)) → ((q : List ℕ) × In q (listed ps) × (p ≡ x ∷ q)) ⊎ In p (listed ps)
+onto_listed : (x : ℕ) (ps : Pieces) (p : List ℕ) → In p (listed (onto x ps)) → ((q : List ℕ) × In q (listed ps) × (p ≡ x ∷ q))
+    ⊎ In p (listed ps)
 unfolding listed
 onto_listed x (last q) p (inl e) = inl (q, inl refl, e)
 onto_listed x (last q) p (inr i) = absurd i
@@ -169,7 +170,8 @@ filled_in (last p) w i = go p i
     go (b ∷ bs) (inr i) = absurd i
 filled_in (piece p ps) w i = go p i (filled_in ps w)
   where
-    go : (p : List ℕ) → In w (word p (filled ps)) → (In w (filled ps) → In w (listed ps) × (0 < length w)) → In w (p ∷ listed ps) × (0 < length w)
+    go : (p : List ℕ) → In w (word p (filled ps)) → (In w (filled ps) → In w (listed ps) × (0 < length w)) → In w (p ∷ listed ps)
+        × (0 < length w)
     go [] i f = let (a, s) = f i in (inr a, s)
     go (b ∷ bs) (inl e) f = (inl e, rw e (omega arith))
     go (b ∷ bs) (inr i) f = let (a, s) = f i in (inr a, s)
@@ -183,7 +185,8 @@ filled_weight (last p) = go p
     go (b ∷ bs) = omega arith
 filled_weight (piece p ps) = go p (filled_weight ps)
   where
-    go : (p : List ℕ) → weight long (filled ps) ≤ weight long (listed ps) → weight long (word p (filled ps)) ≤ length p + 1 + weight long (listed ps)
+    go : (p : List ℕ) → weight long (filled ps) ≤ weight long (listed ps) → weight long (word p (filled ps)) ≤ length p + 1 + weight long
+        (listed ps)
     go [] h = omega arith
     go (b ∷ bs) h = omega arith
 
@@ -252,21 +255,21 @@ lines_next text at l ls e = go (dec_lt at (length text)) e
 -- ---- 2, 3, 4 of a line
 
 pub record Whole (l : Row) : Type 0 where
-  pub short : length l.bytes ≤ 1022
+  pub short : length l.bytes ≤ max_columns
   pub bytes : plain l.bytes ≡ true
   pub ends : l.ended ≡ true
 
 pub whole_told : (l : Row) → whole_line l ≡ Read → Whole l
 unfolding whole_line
-whole_told l e = go (ltb 1022 (length l.bytes)) refl (plain l.bytes) refl l.ended refl e
+whole_told l e = go (ltb max_columns (length l.bytes)) refl (plain l.bytes) refl l.ended refl e
   where
-    go : (a : Bool) → ltb 1022 (length l.bytes) ≡ a → (b : Bool) → plain l.bytes ≡ b → (c : Bool) → l.ended ≡ c
+    go : (a : Bool) → ltb max_columns (length l.bytes) ≡ a → (b : Bool) → plain l.bytes ≡ b → (c : Bool) → l.ended ≡ c
         → pick_answer a (No 2) (pick_answer b (pick_answer c Read (No 4)) (No 3)) ≡ Read → Whole l
     go true p b q c r e = not_read 2 e
     go false p false q c r e = not_read 3 e
     go false p true q false r e = not_read 4 e
-    go false p true q true r e = record { short = ltb-false 1022 (length l.bytes) p; bytes = q; ends = r }
+    go false p true q true r e = record { short = ltb-false max_columns (length l.bytes) p; bytes = q; ends = r }
 
-pub whole_is : (s : List ℕ) → length s ≤ 1022 → plain s ≡ true → whole_line (row s true) ≡ Read
+pub whole_is : (s : List ℕ) → length s ≤ max_columns → plain s ≡ true → whole_line (row s true) ≡ Read
 unfolding whole_line
-whole_is s h p = rw (le-ltb 1022 (length s) h, p)
+whole_is s h p = rw (le-ltb max_columns (length s) h, p)

@@ -23,7 +23,8 @@ use Rattle.job.specs.Limits.{max_steps, max_lemmas, max_names, max_bound}
 use Rattle.job.specs.Literals.{Clause}
 use Rattle.job.specs.Table.{Process, w, process, action, action_of, first_of, first_step, item_of, lemma}
 use Rattle.job.specs.Fitness.{larger, has_variable, is_step, other_fits, variable_fits, used_step, unused_step, mentioned, step_fits}
-use Rattle.job.specs.Fitness.{steps_fit, both_start, program_fits, item_fits, place_fits, length_fits, places_fit, lemma_fits, lemmas_fit, fit}
+use Rattle.job.specs.Fitness.{steps_fit, both_start, program_fits, item_fits, place_fits, length_fits, places_fit, lemma_fits, lemmas_fit}
+use Rattle.job.specs.Fitness.{fit}
 use Rattle.job.specs.InRange.{Below}
 use Rattle.job.proofs.Good.{Leads, Stays, Good}
 

@@ -1,5 +1,6 @@
 -- 45: the table is that of a job (document 01, 'Calls and buffers', Reading). 'Names and text length are not looked at.'
-use Rattle.std.specs.Prelude.{Bool, false, not, ◌&&◌, cond, List, [], ◌∷◌, ℕ, zero, suc, ◌+◌, ◌-◌, ◌*◌, ltb, leb, eqb, ℤ, pos, negsuc, get_or}
+use Rattle.std.specs.Prelude.{Bool, false, not, ◌&&◌, cond, List, [], ◌∷◌, ℕ, zero, suc, ◌+◌, ◌-◌, ◌*◌, ltb, leb, eqb, ℤ, pos, negsuc}
+use Rattle.std.specs.Prelude.{get_or}
 use Rattle.lists.specs.Rows.{num}
 use Rattle.lists.specs.Tests.{every, all, within}
 use Rattle.job.specs.declared.Job.{Job}

@@ -46,12 +46,14 @@ unfolding up_to
 take_up_to k [] = refl
 take_up_to k (b ∷ bs) = go (eqb b k) (take_up_to k bs)
   where
-    go : (t : Bool) → take (length (up_to k bs)) bs ≡ up_to k bs → take (length (cond t [] (b ∷ up_to k bs))) (b ∷ bs) ≡ cond t [] (b ∷ up_to k bs)
+    go : (t : Bool) → take (length (up_to k bs)) bs ≡ up_to k bs → take (length (cond t [] (b ∷ up_to k bs))) (b ∷ bs)
+        ≡ cond t [] (b ∷ up_to k bs)
     go true h = refl
     go false h = ap (λ l. b ∷ l) h
 
 -- where they are not all, k follows
-pub drop_up_to : (k : ℕ) (xs : List ℕ) → length (up_to k xs) < length xs → drop (length (up_to k xs)) xs ≡ k ∷ drop (suc (length (up_to k xs))) xs
+pub drop_up_to : (k : ℕ) (xs : List ℕ) → length (up_to k xs) < length xs → drop (length (up_to k xs)) xs ≡ k
+    ∷ drop (suc (length (up_to k xs))) xs
 unfolding up_to
 drop_up_to k [] h = absurd (omega arith)
 drop_up_to k (b ∷ bs) h = go (eqb b k) refl h (drop_up_to k bs)
@@ -67,7 +69,8 @@ module _ (k : ℕ) (s : List ℕ) (i to : ℕ) where
   unfolding up_to
   up_hit h l e = rw (part s i to h l, eq-eqb (get_or s i 0) k e)
 
-  pub up_miss : i < to → to ≤ length s → (get_or s i 0 ≡ k → ⊥) → length (up_to k (slice i to s)) ≡ suc (length (up_to k (slice (i + 1) to s)))
+  pub up_miss : i < to → to ≤ length s → (get_or s i 0 ≡ k → ⊥) → length (up_to k (slice i to s))
+      ≡ suc (length (up_to k (slice (i + 1) to s)))
   unfolding up_to
   up_miss h l e = rw (part s i to h l, ne_eqb (get_or s i 0) k e)
 
@@ -134,7 +137,8 @@ cut_first k (b ∷ bs) h = go (eqb b k) h (cut_first k bs)
     first : List ℕ → List ℕ → Pieces
     first up xs = piece (take (length up) xs) (cut k (drop (suc (length up)) xs))
 
-    go : (t : Bool) → length (cond t [] (b ∷ up_to k bs)) < suc (length bs) → (length (up_to k bs) < length bs → cut k bs ≡ first (up_to k bs) bs)
+    go : (t : Bool) → length (cond t [] (b ∷ up_to k bs)) < suc (length bs)
+        → (length (up_to k bs) < length bs → cut k bs ≡ first (up_to k bs) bs)
         → cond t (piece [] (cut k bs)) (onto b (cut k bs)) ≡ first (cond t [] (b ∷ up_to k bs)) (b ∷ bs)
     go true h f = refl
     go false h f = ap (onto b) (f (omega arith))

@@ -7,7 +7,8 @@ use native.Mathlib.Nat.{add_assoc, add-zero}
 use native.Mathlib.Numerals.{add-one}
 use native.Mathlib.Decide.{ℕ_discrete}
 use lib.ListN.{length, get_or, take, drop, set, length-set, length-append, length-take, length-drop, take-append-drop}
-use lib.Seq.{length-take-le, take_at, drop-cons, drop-drop, drop-append-add, set_at, set_split, append_snoc, take-set-le, take-set-lt, take-suc-set, drop-set-lt, get_or-set_same, set-append_left, get_or_at}
+use lib.Seq.{length-take-le, take_at, drop-cons, drop-drop, drop-append-add, set_at, set_split, append_snoc, take-set-le, take-set-lt}
+use lib.Seq.{take-suc-set, drop-set-lt, get_or-set_same, set-append_left, get_or_at}
 use Rattle.lists.specs.Rows.{each, tab, num}
 use Rattle.lists.specs.Writing.{write}
 use Rattle.lists.proofs.RowLaws.{length_tab}
@@ -58,7 +59,8 @@ module _ {T : Type 0} (l : List T) (at : ℕ) where
   write_front p x h =
       let i : at + 1 ≡ suc at = add-one at in
       let k : at < length (take (suc at) l) = rw (length-take-le (suc at) l h) (omega arith) in
-      let e : set (take (suc at) l) at x ≡ take at l ++ (x ∷ []) = sym (take-set-lt (suc at) l at x (omega arith)) ∙ take-suc-set l at x h in
+      let e : set (take (suc at) l) at x ≡ take at l ++ (x ∷ []) = sym (take-set-lt (suc at) l at x (omega arith))
+      ∙ take-suc-set l at x h in
       let n : suc at + length p ≡ at + length (x ∷ p) = omega arith in
       rw (i, append_assoc, set-append_left (take (suc at) l) (p ++ drop (suc at + length p) l) at x k, e, n) (simp append_assoc)
 
@@ -68,7 +70,8 @@ module _ {T : Type 0} (l : List T) (at : ℕ) where
   unfolding each
   row_begins f = write_none
 
-  pub row_grows : (i : ℕ) (f : ℕ → T) (x : T) → x ≡ f i → at + i < length l → set (write l at (tab i f)) (at + i) x ≡ write l at (tab (i + 1) f)
+  pub row_grows : (i : ℕ) (f : ℕ → T) (x : T) → x ≡ f i → at + i < length l → set (write l at (tab i f)) (at + i) x
+      ≡ write l at (tab (i + 1) f)
   unfolding each
   row_grows i f x e h =
       let k = length_tab i f in
@@ -102,7 +105,8 @@ module _ {T : Type 0} (g : ℕ → List T) where
   parts_room zero i l = absurd (omega arith)
   parts_room (suc n) i l = rw length-append (go (ℕ_discrete i n) (parts_room n i))
     where
-      go : Dec (i ≡ n) → (i < n → length (each i g) + length (g i) ≤ length (each n g)) → length (each i g) + length (g i) ≤ length (each n g) + length (g n)
+      go : Dec (i ≡ n) → (i < n → length (each i g) + length (g i) ≤ length (each n g)) → length (each i g) + length (g i) ≤ length
+          (each n g) + length (g n)
       go (yes e) f = rw e (omega arith)
       go (no e) f = let k = f (omega arith) in omega arith
 
@@ -124,7 +128,8 @@ module _ {T : Type 0} (l now : List T) (at to i n : ℕ) (g : ℕ → List T) (p
       ∙ parts_grow l at i g (omega arith)
 
 -- a part behind a part, by the place behind the first
-pub write_behind : {T : Type 0} (l : List T) (at to : ℕ) (p q : List T) → to ≡ at + length p → to + length q ≤ length l → write (write l at p) to q ≡ write l at (p ++ q)
+pub write_behind : {T : Type 0} (l : List T) (at to : ℕ) (p q : List T) → to ≡ at + length p → to + length q ≤ length l
+    → write (write l at p) to q ≡ write l at (p ++ q)
 write_behind l at to p q e h = ap (λ k. write (write l at p) k q) e ∙ write_more l at p q (omega arith)
 
 -- ---- a row over the first places of a list, and the rest kept

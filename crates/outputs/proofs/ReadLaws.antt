@@ -86,7 +86,8 @@ unfolding opened following dimacs flat numbers_text
 dimacs_parts text = go (read_job text).answer
   where
     go : (a : Answer (Unit {0})) → let J = (read_job text).table in
-        or_refusal a (λ _. before text J) ++ clause_text (behind a (clauses J)) ≡ or_refusal a (λ _. before text J ++ clause_text (clauses J))
+        or_refusal a (λ _. before text J) ++ clause_text (behind a (clauses J))
+        ≡ or_refusal a (λ _. before text J ++ clause_text (clauses J))
     go (gives x) = refl
     go (refuses number place) = append-nil _
 

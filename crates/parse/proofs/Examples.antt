@@ -59,10 +59,13 @@ table : let j = (reading (bytes one_bit)).job in
     × (take 9 j.labels ≡ 65 ∷ 48 ∷ 0 ∷ 0 ∷ 66 ∷ 48 ∷ 0 ∷ 0 ∷ 0 ∷ [])
     × (take 5 j.names ≡ 97 ∷ 0 ∷ 0 ∷ 0 ∷ 0 ∷ [])
 unfolding bytes verdict every all within each passing first first_of both_critical cut up_to all_of starts is alnum headed rows lines
-    entry_is lookup word_field fixed_field bit_field range_field end_field bound_end_field whole_line first_line number_at value_of word_of then_first
-    fresh bit_of else_line end_line goto_line test_line kind_line step_line then_step blank mention_at process_of other_end enter add_step is_lemmas
+    entry_is lookup word_field fixed_field bit_field range_field end_field bound_end_field whole_line first_line number_at value_of
+    word_of then_first
+    fresh bit_of else_line end_line goto_line test_line kind_line step_line then_step blank mention_at process_of other_end enter
+    add_step is_lemmas
     is_comment stepped program_line pick_lined whole_program_line follow program opened from_line1 program_of whole_line1 without_lemmas by
-    target_of aim enter_to enter_other on link_step link started at_lemmas filled words bare named_in named lemma whole lemma_line lemma_lines
+    target_of aim enter_to enter_other on link_step link started at_lemmas filled words bare named_in named lemma whole lemma_line
+    lemma_lines
     from_lemmas reading
 table = (refl, refl, refl, refl, refl, refl, refl, refl, refl, refl, refl)
 
@@ -70,10 +73,13 @@ table = (refl, refl, refl, refl, refl, refl, refl, refl, refl, refl, refl)
 items : take 4 (reading (bytes "bound 1\n~ one bit\nA0 a=1 goto A0\nB0 maybe goto B0\nlemmas\n~a  A0 B0\n")).job.items
     ≡ negsuc 2 ∷ pos 1 ∷ pos 2 ∷ pos 0 ∷ []
 unfolding bytes verdict every all within each passing first first_of both_critical cut up_to all_of starts is alnum headed rows lines
-    entry_is lookup word_field fixed_field bit_field range_field end_field bound_end_field whole_line first_line number_at value_of word_of then_first
-    fresh bit_of else_line end_line goto_line test_line kind_line step_line then_step blank mention_at process_of other_end enter add_step is_lemmas
+    entry_is lookup word_field fixed_field bit_field range_field end_field bound_end_field whole_line first_line number_at value_of
+    word_of then_first
+    fresh bit_of else_line end_line goto_line test_line kind_line step_line then_step blank mention_at process_of other_end enter
+    add_step is_lemmas
     is_comment stepped program_line pick_lined whole_program_line follow program opened from_line1 program_of whole_line1 without_lemmas by
-    target_of aim enter_to enter_other on link_step link started at_lemmas filled words bare named_in named lemma whole lemma_line lemma_lines
+    target_of aim enter_to enter_other on link_step link started at_lemmas filled words bare named_in named lemma whole lemma_line
+    lemma_lines
     from_lemmas reading
 items = refl
 
@@ -92,9 +98,12 @@ word_read text = (verdict text, (reading (bytes text)).job.program.word)
 
 words_told : map (λ (c : String × ℕ). word_read c.0) accepted ≡ map (λ (c : String × ℕ). (Accepted, c.1)) accepted
 unfolding bytes verdict word_read every all within each passing first first_of both_critical cut up_to all_of starts is alnum headed rows
-    lines entry_is lookup word_field fixed_field bit_field range_field end_field bound_end_field whole_line first_line number_at value_of word_of
-    then_first fresh bit_of else_line end_line goto_line test_line kind_line step_line then_step blank mention_at process_of other_end enter add_step
-    is_lemmas is_comment stepped program_line pick_lined whole_program_line follow program opened from_line1 program_of whole_line1 without_lemmas
+    lines entry_is lookup word_field fixed_field bit_field range_field end_field bound_end_field whole_line first_line number_at value_of
+    word_of
+    then_first fresh bit_of else_line end_line goto_line test_line kind_line step_line then_step blank mention_at process_of other_end
+    enter add_step
+    is_lemmas is_comment stepped program_line pick_lined whole_program_line follow program opened from_line1 program_of whole_line1
+    without_lemmas
     by target_of aim enter_to enter_other on link_step link started at_lemmas filled words bare named_in named lemma whole lemma_line
     lemma_lines from_lemmas reading
 words_told = refl
@@ -147,19 +156,25 @@ refusals =
 
 as_told : map (λ (c : String × Verdict). verdict c.0) refusals ≡ map (λ (c : String × Verdict). c.1) refusals
 unfolding bytes verdict every all within each passing first first_of both_critical cut up_to all_of starts is alnum headed rows lines
-    entry_is lookup word_field fixed_field bit_field range_field end_field bound_end_field whole_line first_line number_at value_of word_of then_first
-    fresh bit_of else_line end_line goto_line test_line kind_line step_line then_step blank mention_at process_of other_end enter add_step is_lemmas
+    entry_is lookup word_field fixed_field bit_field range_field end_field bound_end_field whole_line first_line number_at value_of
+    word_of then_first
+    fresh bit_of else_line end_line goto_line test_line kind_line step_line then_step blank mention_at process_of other_end enter
+    add_step is_lemmas
     is_comment stepped program_line pick_lined whole_program_line follow program opened from_line1 program_of whole_line1 without_lemmas by
-    target_of aim enter_to enter_other on link_step link started at_lemmas filled words bare named_in named lemma whole lemma_line lemma_lines
+    target_of aim enter_to enter_other on link_step link started at_lemmas filled words bare named_in named lemma whole lemma_line
+    lemma_lines
     from_lemmas reading
 as_told = refl
 
 -- a 65th name
 too_many : (reading (bytes one_bit ++ (each 65 (λ _. bytes "a ") ++ bytes "\n"))).verdict ≡ refusal 44 6
 unfolding bytes verdict every all within each passing first first_of both_critical cut up_to all_of starts is alnum headed rows lines
-    entry_is lookup word_field fixed_field bit_field range_field end_field bound_end_field whole_line first_line number_at value_of word_of then_first
-    fresh bit_of else_line end_line goto_line test_line kind_line step_line then_step blank mention_at process_of other_end enter add_step is_lemmas
+    entry_is lookup word_field fixed_field bit_field range_field end_field bound_end_field whole_line first_line number_at value_of
+    word_of then_first
+    fresh bit_of else_line end_line goto_line test_line kind_line step_line then_step blank mention_at process_of other_end enter
+    add_step is_lemmas
     is_comment stepped program_line pick_lined whole_program_line follow program opened from_line1 program_of whole_line1 without_lemmas by
-    target_of aim enter_to enter_other on link_step link started at_lemmas filled words bare named_in named lemma whole lemma_line lemma_lines
+    target_of aim enter_to enter_other on link_step link started at_lemmas filled words bare named_in named lemma whole lemma_line
+    lemma_lines
     from_lemmas reading
 too_many = refl

@@ -90,7 +90,8 @@ opened w lengths items count E l = record {
 }
 
 -- another place of the items
-other_place : (k i count n : ℕ) → i < max_names → n < max_names → ((k ≡ count) × (i ≡ n) → ⊥) → k * max_names + i ≡ count * max_names + n → ⊥
+other_place : (k i count n : ℕ) → i < max_names → n < max_names → ((k ≡ count) × (i ≡ n) → ⊥) → k * max_names + i ≡ count * max_names + n
+    → ⊥
 other_place k i count n a b h e =
     let x : k ≡ count = omega arith in
     let y : i ≡ n = omega arith in
@@ -117,7 +118,8 @@ module _ (w : ℕ) (lengths : List ℕ) (items : List ℤ) (count n : ℕ) (O : 
       }
     where
       name : count * max_names + n < length items
-          → ((k i : ℕ) → i < max_names → ((k ≡ count) × (i ≡ n) → ⊥) → place_of (set items (count * max_names + n) z) k i ≡ place_of items k i)
+          → ((k i : ℕ) → i < max_names → ((k ≡ count) × (i ≡ n) → ⊥) → place_of (set items (count * max_names + n) z) k i
+          ≡ place_of items k i)
           → (i : ℕ) → i < n + 1 → Dec (i ≡ n) → item_fits w (place_of (set items (count * max_names + n) z) count i) ≡ true
       name inside same i h (yes e) =
           ap (λ (x : ℕ). item_fits w (place_of (set items (count * max_names + n) z) count x)) e
@@ -145,7 +147,8 @@ module _ (w : ℕ) (lengths : List ℕ) (items : List ℤ) (count n : ℕ) (O : 
           ∙ within_is 1 max_names n (omega arith) O.few
       size p k l (no e) = ap (within 1 max_names) (p.2 k e) ∙ O.used k (omega arith)
 
-      here : (i : ℕ) → i < max_names → Dec (i < n) → cond (ltb i n) (item_fits w (place_of items count i)) (is_zero (place_of items count i))
+      here : (i : ℕ) → i < max_names → Dec (i < n) → cond (ltb i n) (item_fits w (place_of items count i))
+          (is_zero (place_of items count i))
           ≡ true
       here i l (yes b) = rw (lt-ltb i n b) (O.names i b)
       here i l (no b) = rw (le-ltb i n (omega arith)) (O.left i (omega arith) l)

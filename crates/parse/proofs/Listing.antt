@@ -34,7 +34,8 @@ unfolding bytes every all within each passing first both_critical cut up_to all_
     step_line.fresh step_line.bit_of step_line.else_line step_line.end_line step_line.goto_line step_line.test_line step_line.kind_line
     step_line.step_line step_line.then
     draft.blank draft.mention_at draft.process_of draft.other_end draft.enter draft.add_step
-    program_line_lem.is_lemmas program_line_lem.is_comment program_line_lem.stepped program_line_lem.program_line program_line_lem.pick program_line_lem.whole
+    program_line_lem.is_lemmas program_line_lem.is_comment program_line_lem.stepped program_line_lem.program_line program_line_lem.pick
+    program_line_lem.whole
     program.follow program.program program.opened program.from_line1 program.program_of program.whole
     without_lemmas by labels.target_of labels.aim labels.enter_to labels.enter_other labels.on labels.link_step labels.link labels.started
     labels.at_lemmas lemma_lines from_lemmas reading

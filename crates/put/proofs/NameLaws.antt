@@ -52,16 +52,19 @@ module _ (names : List ℕ) (k : ℕ) where
   -- past the table the name is empty
   pub name_past : length names ≤ k * 4 → name_at names k ≡ []
   unfolding name_at each
-  name_past h = rw (first_found ends 0 4 (first_zero ends) (eq-eqb (letter 0) 0 (sym (byte_out names (k * 4 + 0) (omega arith)))) (omega arith))
+  name_past h = rw (first_found ends 0 4 (first_zero ends) (eq-eqb (letter 0) 0 (sym (byte_out names (k * 4 + 0) (omega arith))))
+      (omega arith))
 
   -- the name is the part of the table before the place end
-  pub name_part : (end : ℕ) → end ≡ k * 4 + length (name_at names k) → end ≤ length names → take (end - k * 4) (drop (k * 4) names) ≡ name_at names k
+  pub name_part : (end : ℕ) → end ≡ k * 4 + length (name_at names k) → end ≤ length names → take (end - k * 4) (drop (k * 4) names)
+      ≡ name_at names k
   unfolding name_at
   name_part end e h =
       let n : end - k * 4 ≡ first 4 ends = omega (arith, name_size) in
       rw n (part_tab names (k * 4) (first 4 ends) (omega (arith, name_size)))
 
   -- where there is room for four bytes, the name is put
-  pub name_fits : {at next : ℕ} {old new : List ℕ} → (next ≡ placed old at (name_at names k)) × (new ≡ put old at (name_at names k)) → at + 4 ≤ length old
+  pub name_fits : {at next : ℕ} {old new : List ℕ} → (next ≡ placed old at (name_at names k)) × (new ≡ put old at (name_at names k))
+      → at + 4 ≤ length old
       → Put 4 old at (name_at names k) next new
   name_fits p h = put_within p name_short h

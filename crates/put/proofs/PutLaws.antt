@@ -37,7 +37,8 @@ module _ (old : List ℕ) (at : ℕ) (part : List ℕ) where
       go false = (refl, refl)
 
 -- where there is room for so many bytes, a part that has no more is put
-pub put_within : {most at next : ℕ} {old part new : List ℕ} → (next ≡ placed old at part) × (new ≡ put old at part) → length part ≤ most → at + most ≤ length old
+pub put_within : {most at next : ℕ} {old part new : List ℕ} → (next ≡ placed old at part) × (new ≡ put old at part) → length part ≤ most
+    → at + most ≤ length old
     → Put most old at part next new
 unfolding placed put
 put_within {at = at} {old = old} {part = part} (n, w) s h =

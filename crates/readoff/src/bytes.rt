@@ -56,7 +56,8 @@ fn put_bytes(
 }
 
 fn put_group(p: Program, values: &[u8], t: usize, run: &mut [u8])
-    requires { Sizes p × (t ≤ p.bound) × (suc p.bound * (p.steps + p.variables) + p.bound ≤ length values.now) × (suc p.bound * (p.variables + 3) ≤ length run.old) × (reads_at p values.now t ≡ true) }
+    requires { Sizes p × (t ≤ p.bound) × (suc p.bound * (p.steps + p.variables) + p.bound ≤ length values.now)
+        × (suc p.bound * (p.variables + 3) ≤ length run.old) × (reads_at p values.now t ≡ true) }
     ensures { run.new ≡ write run.old (t * (p.variables + 3)) (group p (run_read p values.now) t) }
 {
     let n = p.variables;
@@ -68,7 +69,8 @@ fn put_group(p: Program, values: &[u8], t: usize, run: &mut [u8])
 }
 
 pub(crate) fn write_run(p: Program, values: &[u8], run: &mut [u8])
-    requires { Sizes p × (suc p.bound * (p.steps + p.variables) + p.bound ≤ length values.now) × (suc p.bound * (p.variables + 3) ≤ length run.old) × (all (suc p.bound) (reads_at p values.now) ≡ true) }
+    requires { Sizes p × (suc p.bound * (p.steps + p.variables) + p.bound ≤ length values.now)
+        × (suc p.bound * (p.variables + 3) ≤ length run.old) × (all (suc p.bound) (reads_at p values.now) ≡ true) }
     ensures { run.new ≡ write run.old 0 (run_bytes p (run_read p values.now)) }
 {
     let r = p.bound;

@@ -76,7 +76,8 @@ module _ (J : Job) (reply work : List ℕ) where
           is_judged : cond (ltb c f) (accepted w) (refused 65 f w) ≡ checked J reply work
           is_judged = go (values_read n reply) refl (rw p at read) ∙ is_weighed
             where
-              go : (R : Read) → values_read n reply ≡ R → accepted w ≡ settled n work R → cond (ltb c f) (accepted w) (refused 65 f w) ≡ weighed J work R
+              go : (R : Read) → values_read n reply ≡ R → accepted w ≡ settled n work R → cond (ltb c f) (accepted w) (refused 65 f w)
+                  ≡ weighed J work R
               go (refusal d i) o q = let z : ◌≡◌ {A = ℕ} 0 1 = cc in absurd (omega arith)
               go (values vs) o q =
                   let b : w ≡ vs ++ drop n work = cc in

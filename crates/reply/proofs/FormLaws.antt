@@ -84,7 +84,8 @@ module _ {S : Type 0} (A B : Store S) (N M : ℕ) (Good : S → Type 0)
       go (fault c m') = tt
       go (more m') = tt
       go (closed m') = tt
-  lines_kept (piece p ps) k m = go (comment p) (value_line_in A N m p) (value_line_in B M m p) (line_kept m p) (λ m'. lines_kept ps (suc k) m')
+  lines_kept (piece p ps) k m = go (comment p) (value_line_in A N m p) (value_line_in B M m p) (line_kept m p)
+      (λ m'. lines_kept ps (suc k) m')
     where
       on_a : S → Told S
       on_a m' = value_lines_in A N (suc k) m' ps

@@ -22,7 +22,8 @@ module _ (N : ℕ) (m s : List ℕ) (o : Place) (opens : opened_of s o ≡ openi
   pub not_begun : (c k : ℕ) → o ≡ Halt c k → heard_of o m ≡ heard_in marks N m s
   not_begun c k e = rw e (rw e at heard_from)
 
-  module _ (at line : ℕ) (e : o ≡ At at line) (v : Place) (m' : List ℕ) (tells : told_of s m' v ≡ value_lines_in marks N line m (cut 10 (drop at s))) where
+  module _ (at line : ℕ) (e : o ≡ At at line) (v : Place) (m' : List ℕ) (tells : told_of s m' v
+      ≡ value_lines_in marks N line m (cut 10 (drop at s))) where
     spoken_from : spoken (told_of s m' v) ≡ heard_in marks N m s
     spoken_from = ap spoken tells ∙ rw e at heard_from
 

@@ -21,7 +21,8 @@ use Rattle.tokens.proofs.KindLaws.{other_start, other_line}
 use Rattle.reply.specs.declared.Numbers.{Numbers}
 use Rattle.reply.specs.declared.Numbers.TheVariants.{Fault, More, Closed}
 use Rattle.reply.specs.Said.{mark, marks}
-use Rattle.reply.specs.Lines.{comment, Opened, stopped, begun, opening, Part, fault, more, goes, halted, told, after, unended, say_in, numbers_in, value_line_in, value_lines_in, closing}
+use Rattle.reply.specs.Lines.{comment, Opened, stopped, begun, opening, Part, fault, more, goes, halted, told, after, unended, say_in}
+use Rattle.reply.specs.Lines.{numbers_in, value_line_in, value_lines_in, closing}
 use Rattle.reply.specs.Answers.{part_of}
 
 -- ---- one number
@@ -52,7 +53,8 @@ word_in s i to l h w e =
     let up = up_to 32 (slice i to s) in
     let within = up_within 32 s i to l h in
     let end : w.end ≡ i + length up = ap (λ (v : Word). v.end) e in
-    let same : slice i w.end s ≡ up = ap (λ (j : ℕ). slice i j s) end ∙ sym (part_take s i to (length up) within) ∙ take_up_to 32 (slice i to s) in
+    let same : slice i w.end s ≡ up = ap (λ (j : ℕ). slice i j s) end ∙ sym (part_take s i to (length up) within)
+    ∙ take_up_to 32 (slice i to s) in
     (ap (λ (v : Word). v.token) e ∙ sym (ap token same), end, omega arith, omega arith)
 
 -- ---- the words of a line; r is the answer to the first, which ends at e, and m' the marks behind it
@@ -76,7 +78,8 @@ module _ (N : ℕ) (m : List ℕ) (s : List ℕ) (i to e : ℕ) (l : i ≤ to) (
   pub early_zero : (e ≡ to → ⊥) → r ≡ Closed → fault 61 m' ≡ numbers_in marks N m (cut 32 (slice i to s))
   early_zero p k = rw k at (a_word p)
 
-  pub next_word : (e ≡ to → ⊥) → r ≡ More → numbers_in marks N m (cut 32 (slice i to s)) ≡ numbers_in marks N m' (cut 32 (slice (e + 1) to s))
+  pub next_word : (e ≡ to → ⊥) → r ≡ More → numbers_in marks N m (cut 32 (slice i to s))
+      ≡ numbers_in marks N m' (cut 32 (slice (e + 1) to s))
   next_word p k = sym (rw k at (a_word p))
 
 -- ---- a line among those of `v`: a comment says nothing
@@ -176,7 +179,8 @@ module _ (p : List ℕ) (ps : Pieces) (k : ℕ) where
   unfolding opening kind_of
   open_kind = rw (← add-one k) (go (comment p) (is satisfiable p) (is unsatisfiable p) (starts (118 ∷ 32 ∷ []) p))
     where
-      go : (a b c d : Bool) → opens (values a b c d) ≡ cond a (opening (k + 1) ps) (cond b (begun (k + 1) ps) (cond c (stopped 66 k) (stopped 61 k)))
+      go : (a b c d : Bool) → opens (values a b c d)
+          ≡ cond a (opening (k + 1) ps) (cond b (begun (k + 1) ps) (cond c (stopped 66 k) (stopped 61 k)))
       go true b c d = refl
       go false true c d = refl
       go false false true d = refl
@@ -234,7 +238,8 @@ module _ (N k : ℕ) (m : List ℕ) (p : List ℕ) (ps : Pieces) (r : Numbers) (
   a_line = rw (add-one k) (ap (λ (t : Part (List ℕ)). after k t ps (λ m''. value_lines_in marks N (suc k) m'' ps)) said ∙ go (comment p))
     where
       go : (a : Bool) → after k (cond a (more m) (value_line_in marks N m p)) ps (λ m''. value_lines_in marks N (suc k) m'' ps)
-          ≡ cond a (value_lines_in marks N (suc k) m ps) (after k (value_line_in marks N m p) ps (λ m''. value_lines_in marks N (suc k) m'' ps))
+          ≡ cond a (value_lines_in marks N (suc k) m ps)
+          (after k (value_line_in marks N m p) ps (λ m''. value_lines_in marks N (suc k) m'' ps))
       go true = refl
       go false = refl
 

@@ -18,7 +18,8 @@ use Rattle.tokens.specs.declared.Token.{Token}
 use Rattle.tokens.specs.declared.Token.TheVariants.{Bad, Zero, Number}
 use Rattle.tokens.specs.Numbers.{token}
 use Rattle.reply.specs.Said.{Store, says, literals, mark, marks}
-use Rattle.reply.specs.Lines.{Opened, stopped, begun, Part, fault, more, closed, Told, halted, told, goes, after, unended, comment, opening, say_in, numbers_in, value_line_in, value_lines_in, closing}
+use Rattle.reply.specs.Lines.{Opened, stopped, begun, Part, fault, more, closed, Told, halted, told, goes, after, unended, comment}
+use Rattle.reply.specs.Lines.{opening, say_in, numbers_in, value_line_in, value_lines_in, closing}
 use Rattle.reply.specs.Reply.{Heard, turned, whole, ended, spoken, started, heard_in}
 
 -- ---- one store as the picture of another

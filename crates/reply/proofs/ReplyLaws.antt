@@ -24,10 +24,12 @@ use Rattle.reply.specs.Answers.{settled, heard_of, cleaned}
 use Rattle.reply.proofs.MarkLaws.{map_heard, marked, marked_at, heard_marked}
 
 -- in a buffer of zeros the marks hear what the literals hear
-pub hears : (N : ℕ) (s work w : List ℕ) → w ≡ blank N work → heard_in marks N w s ≡ map_heard (marked N (drop N work)) (heard_in literals N [] s)
+pub hears : (N : ℕ) (s work w : List ℕ) → w ≡ blank N work → heard_in marks N w s
+    ≡ map_heard (marked N (drop N work)) (heard_in literals N [] s)
 unfolding marked says
 hears N s work w e =
-    let none : blank N work ≡ marked N (drop N work) [] = ap (λ (l : List ℕ). l ++ drop N work) (tab_same N (λ x. 0) (says []) (λ x l. refl)) in
+    let none : blank N work ≡ marked N (drop N work) [] = ap (λ (l : List ℕ). l ++ drop N work)
+    (tab_same N (λ x. 0) (says []) (λ x l. refl)) in
     ap (λ (m : List ℕ). heard_in marks N m s) (e ∙ none) ∙ heard_marked N (drop N work) [] s
 
 -- what stands behind the first N bytes
@@ -55,14 +57,16 @@ module _ (N : ℕ) (work w : List ℕ) (ls : List Literal) (e : w ≡ marked N (
   same_values = rw (rest_kept, tab_same N (λ x. truth (num w x)) (λ x. truth (says ls x)) (λ x l. ap truth (mark_is x l)))
 
 -- h and w are what was heard, with the marks; H is what the literals heard
-module _ (N : ℕ) (work w : List ℕ) (h : Place) (H : Heard (List Literal)) (heard : heard_of h w ≡ map_heard (marked N (drop N work)) H) where
+module _ (N : ℕ) (work w : List ℕ) (h : Place) (H : Heard (List Literal))
+    (heard : heard_of h w ≡ map_heard (marked N (drop N work)) H) where
   pub a_fault : (c k : ℕ) → h ≡ Halt c k → (w' : List ℕ) → w' ≡ blank N w → refused c k w' ≡ settled N work (completed N H)
   a_fault c k e w' b = b' ∙ go H (rw e at heard)
     where
       b' : refused c k w' ≡ refused c k (blank N w)
       b' = ap (refused c k) b
 
-      go : (H : Heard (List Literal)) → turned c k w ≡ map_heard (marked N (drop N work)) H → refused c k (blank N w) ≡ settled N work (completed N H)
+      go : (H : Heard (List Literal)) → turned c k w ≡ map_heard (marked N (drop N work)) H → refused c k (blank N w)
+          ≡ settled N work (completed N H)
       go (turned c' k' ls) p =
           let m : w ≡ marked N (drop N work) ls = cc in
           let same : c ≡ c' = cc in
@@ -77,7 +81,8 @@ module _ (N : ℕ) (work w : List ℕ) (h : Place) (H : Heard (List Literal)) (h
         kept : blank N w' ≡ blank N w
         kept = rw clean (ap (λ (r : List ℕ). tab N (λ y. 0) ++ r) (drop_row N x (λ y. truth (num w y)) w (omega arith)))
 
-        go : (H : Heard (List Literal)) → whole w ≡ map_heard (marked N (drop N work)) H → refused 64 (x + 1) (blank N w) ≡ settled N work (completed N H)
+        go : (H : Heard (List Literal)) → whole w ≡ map_heard (marked N (drop N work)) H → refused 64 (x + 1) (blank N w)
+            ≡ settled N work (completed N H)
         go (turned c k ls) p = let z : ◌≡◌ {A = ℕ} 0 1 = cc in absurd (omega arith)
         go (whole ls) p =
             let m : w ≡ marked N (drop N work) ls = cc in
@@ -93,7 +98,8 @@ module _ (N : ℕ) (work w : List ℕ) (h : Place) (H : Heard (List Literal)) (h
             let m : w ≡ marked N (drop N work) ls = cc in
             let t : x ≡ missing N (says ls) = found ∙ same_missing N work w ls m in
             let all : x ≡ N = omega (arith, found, first_most (λ y. eqb (num w y) 0) N) in
-            let v : w' ≡ tab N (λ y. truth (says ls y)) ++ drop N work = clean ∙ ap (λ (n : ℕ). cleaned n w) all ∙ same_values N work w ls m in
+            let v : w' ≡ tab N (λ y. truth (says ls y)) ++ drop N work = clean ∙ ap (λ (n : ℕ). cleaned n w) all
+            ∙ same_values N work w ls m in
             rw (← t, le-ltb x N l, v)
 
 -- ---- values that are read: the literals that were heard give them, none is missing

@@ -38,7 +38,8 @@ module _ (text : List ℕ) (at e : ℕ) (h : at < length text) (end : e ≡ at +
   unfolding lines rows cut
   lines_at = go (ℕ_discrete e (length text))
     where
-      go : Dec (e ≡ length text) → rows (cut 10 (drop at text)) ≡ row (take (e - at) (drop at text)) (ltb e (length text)) ∷ rows (cut 10 (drop (e + 1) text))
+      go : Dec (e ≡ length text) → rows (cut 10 (drop at text)) ≡ row (take (e - at) (drop at text)) (ltb e (length text))
+          ∷ rows (cut 10 (drop (e + 1) text))
       go (yes z) =
           let none = drop_of_length-le text {i = e + 1} (omega arith) in
           ap rows (rest_last 10 text at e (omega arith) here z)

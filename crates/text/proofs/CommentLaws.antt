@@ -91,10 +91,12 @@ module _ (text : List ℕ) where
     pub fit_next : (room : ℕ) → is_lemmas line ≡ false → length (remark line) ≤ room
         → leb (length (left (e + 1))) (room - length (remark line)) ≡ leb (length (left at)) room
     fit_next room l r =
-        sym (ap (λ s. leb (length s) room) (left_next l) ∙ rw length-append (fits_behind (length (remark line)) (length (left (e + 1))) room r))
+        sym (ap (λ s. leb (length s) room) (left_next l)
+        ∙ rw length-append (fits_behind (length (remark line)) (length (left (e + 1))) room r))
 
     pub fit_not : (room : ℕ) → is_lemmas line ≡ false → room < length (remark line) → false ≡ leb (length (left at)) room
-    fit_not room l r = sym (ap (λ s. leb (length s) room) (left_next l) ∙ rw length-append (lt-leb (length (remark line) + length (left (e + 1))) room (omega arith)))
+    fit_not room l r = sym (ap (λ s. leb (length s) room) (left_next l)
+        ∙ rw length-append (lt-leb (length (remark line) + length (left (e + 1))) room (omega arith)))
 
     -- what is left goes behind the line's own
     pub write_next : {most end next : ℕ} {out new : List ℕ} → is_lemmas line ≡ false → Put most out end (remark line) next new
@@ -103,7 +105,8 @@ module _ (text : List ℕ) where
         × (write new next (left (e + 1)) ≡ write out end (left at))
         × (length new ≡ length out)
     write_next {most} {end} {next} {out} {new} l p r =
-        let n : length (left at) ≡ length (remark line) + length (left (e + 1)) = ap length (left_next l) ∙ length-append (remark line) (left (e + 1)) in (
+        let n : length (left at) ≡ length (remark line) + length (left (e + 1)) = ap length (left_next l)
+        ∙ length-append (remark line) (left (e + 1)) in (
           omega (arith, p.behind),
           rw (p.holds, p.behind, left_next l) (write_more out end (remark line) (left (e + 1)) (omega arith)),
           ap length p.holds ∙ length_write out end (remark line) (omega arith),

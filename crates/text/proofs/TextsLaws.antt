@@ -88,7 +88,8 @@ module _ (text : ℕ → List ℕ) (old : List ℕ) where
           → length (each (passing (tab n (fits text old))) text) ≤ length old
           → length (each (passing (tab (suc n) (fits text old))) text) ≤ length old
       go (yes e) (inl t) i =
-          let k : passing (tab (suc n) (fits text old)) ≡ suc n = ap (λ m. passing (tab m (fits text old))) (sym (add-one n)) ∙ row_next (fits text old) n e t ∙ add-one n in
+          let k : passing (tab (suc n) (fits text old)) ≡ suc n = ap (λ m. passing (tab m (fits text old))) (sym (add-one n))
+          ∙ row_next (fits text old) n e t ∙ add-one n in
           rw k (leb-true (length (each (suc n) text)) (length old) t)
       go (yes e) (inr t) i =
           let k : passing (tab (suc n) (fits text old)) ≡ n = row_found (fits text old) n (suc n) e t (omega arith) in

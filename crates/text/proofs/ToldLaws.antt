@@ -65,7 +65,8 @@ module _ (l digits : List ℕ) (at end : ℕ) (z : ℤ) (e : end ≡ at + length
     (d : digits ≡ write l (end - 1 - length (numeral (nat_abs z))) (numeral (nat_abs z))) where
   pub digits_length : length digits ≡ length l
   digits_length =
-      ap length d ∙ length_write l (end - 1 - length (numeral (nat_abs z))) (numeral (nat_abs z)) (omega (arith, length_told z, length_some (nat_abs z)))
+      ap length d ∙ length_write l (end - 1 - length (numeral (nat_abs z))) (numeral (nat_abs z))
+      (omega (arith, length_told z, length_some (nat_abs z)))
 
   closed : (b : ℕ) → set digits (end - 1) b ≡ write l (end - 1 - length (numeral (nat_abs z))) (numeral (nat_abs z) ++ (b ∷ []))
   closed b =

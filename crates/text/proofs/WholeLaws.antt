@@ -29,5 +29,6 @@ module _ (text old : List ℕ) where
   printed_within n e = go (split (leb (length text) (length old)))
     where
       go : (leb (length text) (length old) ≡ true) ⊎ (leb (length text) (length old) ≡ false) → n ≤ length old
-      go (inl t) = let k : Bytes n ≡ Bytes (length text) = rw t at e in let i : n ≡ length text = cc in omega (arith, leb-true (length text) (length old) t)
+      go (inl t) = let k : Bytes n ≡ Bytes (length text) = rw t at e in let i : n ≡ length text = cc in
+          omega (arith, leb-true (length text) (length old) t)
       go (inr t) = let k : Bytes n ≡ Short = rw t at e in let z : ◌≡◌ {A = ℕ} 0 1 = cc in absurd (omega arith)

@@ -53,7 +53,8 @@ pub(crate) fn remarks_fit(text: &[u8], from: usize, room: usize) -> bool
 
 pub(crate) fn put_remarks(out: &mut [u8], text: &[u8], from: usize) -> usize
     requires { length (remarks (lines (drop from text.now))) ≤ length out.old }
-    ensures { (result ≡ length (remarks (lines (drop from text.now)))) × (out.new ≡ write out.old 0 (remarks (lines (drop from text.now)))) }
+    ensures { (result ≡ length (remarks (lines (drop from text.now))))
+        × (out.new ≡ write out.old 0 (remarks (lines (drop from text.now)))) }
 {
     let mut at = from;
     let mut end: usize = 0;

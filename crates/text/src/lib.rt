@@ -104,7 +104,8 @@ pub fn refusal_text(refusal: Refusal, out: &mut [u8]) -> Printed
 
 // The lines of a run: whole ones while the next one fits.
 pub fn run_text(j: Job, run: &[u8], out: &mut [u8]) -> Texted
-    ensures { (result ≡ texted (run_lines j) (run_line j run.now) out.old) × (out.new ≡ with_texts (run_lines j) (run_line j run.now) out.old) }
+    ensures { (result ≡ texted (run_lines j) (run_line j run.now) out.old)
+        × (out.new ≡ with_texts (run_lines j) (run_line j run.now) out.old) }
 {
     let r = j.program.bound;
     let n = j.program.variables;

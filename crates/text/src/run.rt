@@ -117,7 +117,8 @@ pub(crate) fn put_lines<'a>(
     r: usize,
 ) -> Texted
     requires { (n ≤ max_steps) × (r ≤ max_bound) }
-    ensures { (result ≡ texted (suc r) (λ t. line_text labels.now names.now n (group_of n run.now t) t) out.old) × (out.new ≡ with_texts (suc r) (λ t. line_text labels.now names.now n (group_of n run.now t) t) out.old) }
+    ensures { (result ≡ texted (suc r) (λ t. line_text labels.now names.now n (group_of n run.now t) t) out.old)
+        × (out.new ≡ with_texts (suc r) (λ t. line_text labels.now names.now n (group_of n run.now t) t) out.old) }
 {
     let mut line = [0u8; 33 + 26 * Job::STEPS];
     let mut count: usize = 0;

@@ -36,7 +36,12 @@ other_line x t p n h = rw (other_start x t p n h) (and_no (eqb (length p) (lengt
 
 pub a_value_line : (p : List ℕ) → starts (118 ∷ 32 ∷ []) p ≡ true → Values ≡ kind_of p
 unfolding kind_of
-a_value_line p h = rw (other_start 99 [] p (λ e. omega arith) h, other_line 115 _ p (λ e. omega arith) h, other_line 115 _ p (λ e. omega arith) h, h)
+a_value_line p h = rw (
+  other_start 99 [] p (λ e. omega arith) h,
+  other_line 115 _ p (λ e. omega arith) h,
+  other_line 115 _ p (λ e. omega arith) h,
+  h,
+)
 
 -- ---- the part from from to e, one law for each way out
 
@@ -64,17 +69,21 @@ module _ (s : List ℕ) (from e : ℕ) (l : from < e) (h : e ≤ length s) where
     unfolding kind_of
     a_satisfiable i = rw (no_comment, i)
 
-    pub an_unsatisfiable : is satisfiable (slice from e s) ≡ false → is unsatisfiable (slice from e s) ≡ true → Unsatisfiable ≡ kind_of (slice from e s)
+    pub an_unsatisfiable : is satisfiable (slice from e s) ≡ false → is unsatisfiable (slice from e s) ≡ true → Unsatisfiable
+        ≡ kind_of (slice from e s)
     unfolding kind_of
     an_unsatisfiable i j = rw (no_comment, i, j)
 
-    pub nothing_said : is satisfiable (slice from e s) ≡ false → is unsatisfiable (slice from e s) ≡ false → Other ≡ kind_of (slice from e s)
+    pub nothing_said : is satisfiable (slice from e s) ≡ false → is unsatisfiable (slice from e s) ≡ false → Other
+        ≡ kind_of (slice from e s)
     unfolding kind_of
     nothing_said i j =
-        let no_values : starts (118 ∷ 32 ∷ []) (slice from e s) ≡ false = rw line (head_start 118 (get_or s from 0) _ bs (λ q. omega arith)) in
+        let no_values : starts (118 ∷ 32 ∷ []) (slice from e s) ≡ false =
+        rw line (head_start 118 (get_or s from 0) _ bs (λ q. omega arith)) in
         rw (no_comment, i, j, no_values)
 
-  pub another : (get_or s from 0 ≡ 99 → ⊥) → (get_or s from 0 ≡ 115 → ⊥) → starts (118 ∷ 32 ∷ []) (slice from e s) ≡ false → Other ≡ kind_of (slice from e s)
+  pub another : (get_or s from 0 ≡ 99 → ⊥) → (get_or s from 0 ≡ 115 → ⊥) → starts (118 ∷ 32 ∷ []) (slice from e s) ≡ false → Other
+      ≡ kind_of (slice from e s)
   unfolding kind_of
   another c n v =
       let b = get_or s from 0 in

@@ -58,7 +58,8 @@ front_most zero xs = omega arith
 front_most (suc k) [] = omega arith
 front_most (suc k) (b ∷ bs) = go (within 48 57 b) (front_most k bs)
   where
-    go : (t : Bool) → length (front (take k bs)) ≤ length (front bs) → length (cond t (b ∷ front (take k bs)) []) ≤ length (cond t (b ∷ front bs) [])
+    go : (t : Bool) → length (front (take k bs)) ≤ length (front bs) → length (cond t (b ∷ front (take k bs)) []) ≤ length
+        (cond t (b ∷ front bs) [])
     go true h = omega arith
     go false h = omega arith
 
@@ -156,7 +157,8 @@ front_word (suc n) (b ∷ bs) = go (ℕ_discrete b 32) (front_word n bs)
     go (no e) rest = rw (ne_eqb b 32 e) (ap (λ (l : List ℕ). cond (within 48 57 b) (b ∷ l) []) rest)
 
 -- the space is looked for behind the digits
-up_digits : (n : ℕ) (xs : List ℕ) → length (up_to 32 xs) ≡ length (front (take n xs)) + length (up_to 32 (drop (length (front (take n xs))) xs))
+up_digits : (n : ℕ) (xs : List ℕ) → length (up_to 32 xs)
+    ≡ length (front (take n xs)) + length (up_to 32 (drop (length (front (take n xs))) xs))
 unfolding front up_to
 up_digits zero xs = omega arith
 up_digits (suc n) [] = omega arith
@@ -180,8 +182,10 @@ up_head k (b ∷ bs) h = go (eqb b k) h
     go false h = refl
 
 -- e is where the digits of the first eight bytes end, v is what they write, and the first space from e on stands at x
-module _ (on : Bool) (s : List ℕ) (from to to8 e v x : ℕ) (l : from ≤ to) (k : to ≤ length s) (eight : slice from to8 s ≡ take 8 (slice from to s))
-    (at : e ≡ from + length (front (slice from to8 s))) (is : v ≡ decimal 0 (front (slice from to8 s))) (space : x ≡ e + length (up_to 32 (slice e to s))) where
+module _ (on : Bool) (s : List ℕ) (from to to8 e v x : ℕ) (l : from ≤ to) (k : to ≤ length s) (eight : slice from to8 s
+    ≡ take 8 (slice from to s))
+    (at : e ≡ from + length (front (slice from to8 s))) (is : v ≡ decimal 0 (front (slice from to8 s)))
+    (space : x ≡ e + length (up_to 32 (slice e to s))) where
   abbrev w : List ℕ
   w = up_to 32 (slice from to s)
 
@@ -261,14 +265,17 @@ module _ (s : List ℕ) (from to : ℕ) where
       same_fields _ (word_at s from to) (sym (ap token none)) (omega (arith, ap length none))
 
   module _ (r : Word) (h : from < to) (l : to ≤ length s) where
-    pub minus_word : get_or s from 0 ≡ 45 → r.token ≡ unsigned false (up_to 32 (slice (from + 1) to s)) → r.end ≡ from + 1 + length (up_to 32 (slice (from + 1) to s))
+    pub minus_word : get_or s from 0 ≡ 45 → r.token ≡ unsigned false (up_to 32 (slice (from + 1) to s)) → r.end
+        ≡ from + 1 + length (up_to 32 (slice (from + 1) to s))
         → r ≡ word_at s from to
     unfolding token up_to word_at
     minus_word e t x =
         let b : eqb (get_or s from 0) 32 ≡ false = ne_eqb (get_or s from 0) 32 (λ p. omega arith) in
-        same_fields r _ (t ∙ sym (rw (part s from to h l, b, eq-eqb (get_or s from 0) 45 e))) (x ∙ sym (rw (part s from to h l, b) (omega arith)))
+        same_fields r _ (t ∙ sym (rw (part s from to h l, b, eq-eqb (get_or s from 0) 45 e)))
+        (x ∙ sym (rw (part s from to h l, b) (omega arith)))
 
-    pub plain_word : (get_or s from 0 ≡ 45 → ⊥) → r.token ≡ unsigned true (up_to 32 (slice from to s)) → r.end ≡ from + length (up_to 32 (slice from to s))
+    pub plain_word : (get_or s from 0 ≡ 45 → ⊥) → r.token ≡ unsigned true (up_to 32 (slice from to s)) → r.end
+        ≡ from + length (up_to 32 (slice from to s))
         → r ≡ word_at s from to
     unfolding word_at
     plain_word e t x = same_fields r _ (t ∙ no_sign s from to h l e) x

@@ -167,7 +167,8 @@ fn eight_bytes(s: &[u8], from: usize, to: usize) -> usize
 // The digits of at most eight bytes.
 fn digits(s: &[u8], from: usize, to: usize) -> Front
     requires { (from ≤ to) × (to ≤ length s.now) × (to - from ≤ 8) }
-    ensures { (result.end ≡ from + length (front (slice from to s.now))) × (from ≤ result.end) × (result.end ≤ to) × (result.value ≡ decimal 0 (front (slice from to s.now))) }
+    ensures { (result.end ≡ from + length (front (slice from to s.now))) × (from ≤ result.end) × (result.end ≤ to)
+        × (result.value ≡ decimal 0 (front (slice from to s.now))) }
 {
     let mut v: usize = 0;
     let mut i = from;
@@ -202,7 +203,8 @@ fn numbered(on: bool, v: usize, whole: bool) -> Token
 // A number behind its sign. Digits that a space or the line's end follows end the word; only any other word is looked through for its end.
 fn unsigned(s: &[u8], on: bool, from: usize, to: usize) -> Word
     requires { (from ≤ to) × (to ≤ length s.now) }
-    ensures { (result.token ≡ unsigned_token on (up_to 32 (slice from to s.now))) × (result.end ≡ from + length (up_to 32 (slice from to s.now))) }
+    ensures { (result.token ≡ unsigned_token on (up_to 32 (slice from to s.now)))
+        × (result.end ≡ from + length (up_to 32 (slice from to s.now))) }
 {
     let d = digits(s, from, eight_bytes(s, from, to));
     let e = d.end;

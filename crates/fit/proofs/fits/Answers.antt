@@ -14,7 +14,10 @@ returns-then-not-program_fits c = rw (sym c.program_fits.ensures ∙ not-true _ 
 
 pub returns-then-j-gt-LEMMAS : goal.returns-then-j-gt-LEMMAS
 unfolding fit every
-returns-then-j-gt-LEMMAS c = rw (sym c.program_fits.ensures ∙ not-false _ (ap not c.if-not-program_fits.false), lt-leb _ _ c.if-j-gt-LEMMAS.true)
+returns-then-j-gt-LEMMAS c = rw (
+  sym c.program_fits.ensures ∙ not-false _ (ap not c.if-not-program_fits.false),
+  lt-leb _ _ c.if-j-gt-LEMMAS.true,
+)
 
 pub overflow_add-p : goal.overflow_add-p
 overflow_add-p c = let z = program_sizes _ (sym c.program_fits.ensures ∙ not-false _ (ap not c.if-not-program_fits.false)) in

@@ -46,7 +46,8 @@ turn c rest h =
 pub returns-in_default : goal.returns-in_default
 returns-in_default c =
     let lemma_line' = c.lemma_line-r in
-    c.denied.ensures ∙ turn (goal.at.returns-in_default c).After-lemma_line-r _ (ends_here lemma_line'.result _ _ refl c.in_default.field-0 c.in_default.is)
+    c.denied.ensures ∙ turn (goal.at.returns-in_default c).After-lemma_line-r _
+    (ends_here lemma_line'.result _ _ refl c.in_default.field-0 c.in_default.is)
 
 pub loop-at-preserved : goal.loop-at-preserved
 loop-at-preserved c =

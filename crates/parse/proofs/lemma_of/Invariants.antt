@@ -8,7 +8,8 @@ use Rattle.parse.proofs.lemma_of.Given as goal
 
 abbrev pub invariant-loop-at : goal.invariant-loop-at
 invariant-loop-at l =
-    (l.at ≤ length l.s) × (l.k ≤ max_names) × (l.j.lemmas < max_lemmas) × (l.j.program.steps ≤ max_steps) × (l.j.program.variables ≤ max_steps)
+    (l.at ≤ length l.s) × (l.k ≤ max_names) × (l.j.lemmas < max_lemmas) × (l.j.program.steps ≤ max_steps)
+    × (l.j.program.variables ≤ max_steps)
     × (lemma l.initial.j l.n 0 (words l.s) ≡ lemma l.j l.n l.k (words (drop l.at l.s)))
 
 abbrev pub decreases-loop-at : goal.decreases-loop-at

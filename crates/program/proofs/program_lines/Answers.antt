@@ -39,14 +39,19 @@ kept c =
     subst⁻¹ (λ (r : Lined). Within r.draft) c.line_of-r.ensures (line_kept c.loop-at.d _ (c.loop-at.n + 1) c.loop-at.invariant.2)
 
 pub returns-in_default : goal.returns-in_default
-returns-in_default c = c.stopped.ensures ∙ not_more _ c.in_default.not-More _ _ _ _ _ ∙ sym (turn (goal.at.returns-in_default c).After-line_of-r)
+returns-in_default c = c.stopped.ensures ∙ not_more _ c.in_default.not-More _ _ _ _ _
+    ∙ sym (turn (goal.at.returns-in_default c).After-line_of-r)
 
 pub loop-at-preserved : goal.loop-at-preserved
 loop-at-preserved c =
     let pre' = c.requires in
     let loop' = c.loop-at in
-    let e = ends (goal.at.loop-at-preserved c).After-end_of-e in
-    (omega (arith, e, loop'.invariant), omega (arith, e, pre'), kept (goal.at.loop-at-preserved c).After-line_of-r, turn (goal.at.loop-at-preserved c).After-line_of-r ∙ follow_more _ _ _ _ _ c.in-More.is)
+    let e = ends (goal.at.loop-at-preserved c).After-end_of-e in (
+      omega (arith, e, loop'.invariant),
+      omega (arith, e, pre'),
+      kept (goal.at.loop-at-preserved c).After-line_of-r,
+      turn (goal.at.loop-at-preserved c).After-line_of-r ∙ follow_more _ _ _ _ _ c.in-More.is,
+    )
 
 pub returns : goal.returns
 returns c =

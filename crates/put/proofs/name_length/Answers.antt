@@ -10,8 +10,11 @@ loop-i-init c = (omega arith, first_zero _, omega arith)
 pub returns-then-byte_at-eq0 : goal.returns-then-byte_at-eq0
 returns-then-byte_at-eq0 c =
     let start = c.before.before in
-    let o = c.loop-i in
-    (name_ends start.args.names.now start.args.k o.i c.byte_at.result c.loop-i-test.true o.invariant.1 c.byte_at.ensures c.if-byte_at-eq0.true, o.invariant.2)
+    let o = c.loop-i in (
+      name_ends start.args.names.now start.args.k o.i c.byte_at.result c.loop-i-test.true o.invariant.1 c.byte_at.ensures
+          c.if-byte_at-eq0.true,
+      o.invariant.2,
+    )
 
 pub loop-i-preserved : goal.loop-i-preserved
 loop-i-preserved c =

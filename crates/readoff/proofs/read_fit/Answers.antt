@@ -51,8 +51,12 @@ write_run-requires c =
     let fault_at = c.fault_at-place in
     let if3 = c.if-place-p in
     let a = c.args in
-    let k = ap (λ k. k * (a.p.variables + 3)) (add-one a.p.bound) in
-    (pre.0, omega (arith, items_below a.p, pre.1, if1.false), omega (arith, times.ensures, if2.false), all_read a.p a.values.now _ fault_at.ensures (omega (arith, if3.false)))
+    let k = ap (λ k. k * (a.p.variables + 3)) (add-one a.p.bound) in (
+      pre.0,
+      omega (arith, items_below a.p, pre.1, if1.false),
+      omega (arith, times.ensures, if2.false),
+      all_read a.p a.values.now _ fault_at.ensures (omega (arith, if3.false)),
+    )
 
 pub returns : goal.returns
 returns c =

@@ -23,7 +23,8 @@ returns-then-reply-gt-MOST_BYTES c =
     let a = c.args in
     let t = c.totals in
     let k = totals_fit a.j t.result t.ensures c.in-Totals.n c.in-Totals.clauses c.in-Totals.is in
-    rw c.refused-then-reply-gt-MOST_BYTES.ensures (is_60 a.j a.reply.now a.work.now k.0 c.in-Totals.n k.1 (omega arith) c.if-reply-gt-MOST_BYTES.true)
+    rw c.refused-then-reply-gt-MOST_BYTES.ensures (is_60 a.j a.reply.now a.work.now k.0 c.in-Totals.n k.1 (omega arith)
+    c.if-reply-gt-MOST_BYTES.true)
 
 pub returns-in_default-read : goal.returns-in_default-read
 returns-in_default-read c =

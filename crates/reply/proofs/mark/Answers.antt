@@ -33,10 +33,12 @@ pub returns-then-on : goal.returns-then-on
 returns-then-on c =
     let a = c.args in
     let ends = c.if-not-whole.false in
-    rw c.in-Number.is (say_more a.n a.work.now c.in-Number.on c.in-Number.x c.in-Number.whole (omega arith) c.if-work-x-ne0.false ends true c.if-on.true)
+    rw c.in-Number.is (say_more a.n a.work.now c.in-Number.on c.in-Number.x c.in-Number.whole (omega arith) c.if-work-x-ne0.false ends
+    true c.if-on.true)
 
 pub returns-else-on : goal.returns-else-on
 returns-else-on c =
     let a = c.args in
     let ends = c.if-not-whole.false in
-    rw c.in-Number.is (say_more a.n a.work.now c.in-Number.on c.in-Number.x c.in-Number.whole (omega arith) c.if-work-x-ne0.false ends false c.if-on.false)
+    rw c.in-Number.is (say_more a.n a.work.now c.in-Number.on c.in-Number.x c.in-Number.whole (omega arith) c.if-work-x-ne0.false ends
+    false c.if-on.false)

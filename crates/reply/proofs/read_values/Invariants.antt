@@ -10,7 +10,8 @@ use Rattle.reply.proofs.read_values.Given as goal
 abbrev pub invariant-loop-work : goal.invariant-loop-work
 invariant-loop-work l = (l.at ≤ length l.s)
     × (l.line ≤ l.at + 1)
-    × (value_lines_in marks l.n l.first l.initial.work (cut 10 (drop l.from l.s)) ≡ value_lines_in marks l.n l.line l.work (cut 10 (drop l.at l.s)))
+    × (value_lines_in marks l.n l.first l.initial.work (cut 10 (drop l.from l.s)) ≡ value_lines_in marks l.n l.line l.work
+    (cut 10 (drop l.at l.s)))
     × (length l.work ≡ length l.initial.work)
 
 abbrev pub decreases-loop-work : goal.decreases-loop-work

@@ -27,5 +27,10 @@ loop-i-preserved c =
     elim j.branch [
       | then-work-i-ne1 x ↦ now_false w l.work l.i (omega arith) l.invariant.1 x.if-work-i-ne1.true j.work x.work-is
       | else-work-i-ne1 x ↦ now_true w l.work l.i (omega arith) l.invariant.1 x.if-work-i-ne1.false j.work x.work-is
-    ] in
-    (omega arith, on, none_missing w l.work l.i (omega arith) l.invariant.1 l.invariant.2 c.if-work-i-eq0.false, j.auto.work ∙ l.invariant.3)
+    ] in (
+      omega arith,
+      on,
+      none_missing w l.work l.i (omega arith) l.invariant.1 l.invariant.2 c.if-work-i-eq0.false,
+      j.auto.work
+          ∙ l.invariant.3,
+    )

@@ -8,7 +8,8 @@ use Rattle.reply.specs.Reply.{missing}
 use Rattle.reply.proofs.settle.Given as goal
 
 abbrev pub invariant-loop-i : goal.invariant-loop-i
-invariant-loop-i l = (l.i ≤ l.n) × (l.work ≡ cleaned l.i l.initial.work) × (missing l.i (num l.initial.work) ≡ l.i) × (length l.work ≡ length l.initial.work)
+invariant-loop-i l = (l.i ≤ l.n) × (l.work ≡ cleaned l.i l.initial.work) × (missing l.i (num l.initial.work) ≡ l.i)
+    × (length l.work ≡ length l.initial.work)
 
 abbrev pub decreases-loop-i : goal.decreases-loop-i
 decreases-loop-i l = l.n - l.i

@@ -58,8 +58,11 @@ names-preserved c =
     let names' = c.names in
     let entry_at' = c.entry_at in
     let w = slice a.from a.to a.s.now in
-    let other = ne_eqb _ _ (λ e. c.if-entry_at-part_at.true (entry_at'.ensures ∙ e ∙ sym c.part_at.ensures)) in
-    (omega arith, first_none (entry_is a.names.now w) names'.i c.loop-j.invariant.2 (all_fails (Same a.names.now w names'.i) c.loop-j.j 4 (omega arith) other))
+    let other = ne_eqb _ _ (λ e. c.if-entry_at-part_at.true (entry_at'.ensures ∙ e ∙ sym c.part_at.ensures)) in (
+      omega arith,
+      first_none (entry_is a.names.now w) names'.i c.loop-j.invariant.2
+          (all_fails (Same a.names.now w names'.i) c.loop-j.j 4 (omega arith) other),
+    )
 
 pub returns-then-k-count : goal.returns-then-k-count
 unfolding lookup

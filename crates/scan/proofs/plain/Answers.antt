@@ -17,7 +17,8 @@ returns-then-s-i-lt32 c =
     let loop' = c.loop-i in
     let s = args'.s.now in
     let i = loop'.i in
-    sym (loop'.invariant ∙ all_at (within 32 126) s i (omega arith) ∙ ap (λ (b : Bool). b && all_of (within 32 126) (drop (suc i) s)) (within_under 32 126 _ c.if-s-i-lt32.true))
+    sym (loop'.invariant ∙ all_at (within 32 126) s i (omega arith) ∙ ap (λ (b : Bool). b && all_of (within 32 126) (drop (suc i) s))
+    (within_under 32 126 _ c.if-s-i-lt32.true))
 
 pub returns-then-s-i-gt126 : goal.returns-then-s-i-gt126
 returns-then-s-i-gt126 c =
@@ -25,7 +26,8 @@ returns-then-s-i-gt126 c =
     let loop' = c.loop-i in
     let s = args'.s.now in
     let i = loop'.i in
-    sym (loop'.invariant ∙ all_at (within 32 126) s i (omega arith) ∙ ap (λ (b : Bool). b && all_of (within 32 126) (drop (suc i) s)) (within_over 32 126 _ c.if-s-i-gt126.true))
+    sym (loop'.invariant ∙ all_at (within 32 126) s i (omega arith) ∙ ap (λ (b : Bool). b && all_of (within 32 126) (drop (suc i) s))
+    (within_over 32 126 _ c.if-s-i-gt126.true))
 
 pub loop-i-preserved : goal.loop-i-preserved
 loop-i-preserved c =

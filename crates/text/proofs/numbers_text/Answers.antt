@@ -52,7 +52,8 @@ returns-then-out-bytes-clause-value c =
     let b = o.invariant.1 in
     let fits : SFits w32 (get_or a.numbers.now o.count (pos 0)) = search rules in
     let n = long a.numbers.now o.count fits _ c.told_length-n.ensures in
-    begun_full (number_text a.numbers.now) a.out.now (length a.numbers.now) o.count o.bytes o.out b c.loop-count-test.true (omega (arith, n, b.room))
+    begun_full (number_text a.numbers.now) a.out.now (length a.numbers.now) o.count o.bytes o.out b c.loop-count-test.true
+    (omega (arith, n, b.room))
 
 pub returns-then-out-bytes-clause-count_value : goal.returns-then-out-bytes-clause-count_value
 returns-then-out-bytes-clause-count_value c h =

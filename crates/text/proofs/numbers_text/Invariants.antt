@@ -8,7 +8,8 @@ use Rattle.text.proofs.numbers_text.Given as goal
 
 abbrev pub invariant-loop-count : goal.invariant-loop-count
 invariant-loop-count l =
-    (l.count ≤ length l.numbers) × Begun (number_text l.numbers) l.initial.out l.count l.bytes l.out × (length l.out ≡ length l.initial.out) × (l.bytes ≤ l.count * number_room)
+    (l.count ≤ length l.numbers) × Begun (number_text l.numbers) l.initial.out l.count l.bytes l.out
+    × (length l.out ≡ length l.initial.out) × (l.bytes ≤ l.count * number_room)
 
 abbrev pub decreases-loop-count : goal.decreases-loop-count
 decreases-loop-count l = length l.numbers - l.count

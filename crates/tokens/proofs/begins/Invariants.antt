@@ -7,7 +7,8 @@ use Rattle.lists.specs.Pieces.{starts}
 use Rattle.tokens.proofs.begins.Given as goal
 
 abbrev pub invariant-loop-i : goal.invariant-loop-i
-invariant-loop-i l = (l.e ≤ length l.s) × (l.i ≤ length l.t) × (starts l.t (slice l.from l.to l.s) ≡ starts (drop l.i l.t) (slice l.at l.e l.s))
+invariant-loop-i l = (l.e ≤ length l.s) × (l.i ≤ length l.t)
+    × (starts l.t (slice l.from l.to l.s) ≡ starts (drop l.i l.t) (slice l.at l.e l.s))
 
 abbrev pub decreases-loop-i : goal.decreases-loop-i
 decreases-loop-i l = length l.t - l.i

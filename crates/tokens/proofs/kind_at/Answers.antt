@@ -1,4 +1,5 @@
--- The first byte tells a comment and a line that is said; a line of values is of no other kind; a line that runs past the text ends with it.
+-- The first byte tells a comment and a line that is said; a line of values is of no other kind; a line that runs past the text ends with
+-- it.
 use mathlib.Core.Path.{sym, ◌∙◌}
 use native.Mathlib.Omega.{arith}
 use lib.Seq.{slice}
@@ -29,4 +30,5 @@ returns c =
     let a = c.args in
     let e = c.end-e in
     let none = sym c.begins.ensures ∙ c.if-begins.false in
-    another a.s.now a.from e.result (omega arith) e.ensures.0 c.if-s-from-eq99.false c.if-s-from-eq115.false none ∙ same_line a.s.now a.from e.result a.to e.ensures.1
+    another a.s.now a.from e.result (omega arith) e.ensures.0 c.if-s-from-eq99.false c.if-s-from-eq115.false none
+    ∙ same_line a.s.now a.from e.result a.to e.ensures.1

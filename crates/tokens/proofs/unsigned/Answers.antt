@@ -13,8 +13,12 @@ returns-then-e-from c =
     let p = c.requires in
     let eight = c.eight_bytes in
     let d = c.digits-d in
-    let x = c.find-end in
-    (no_digit a.on a.s.now a.from a.to eight.result d.result.end d.result.value x.result p.0 p.1 eight.ensures.3 d.ensures.0 d.ensures.3 x.ensures c.if-e-from.true, word_ends a.on a.s.now a.from a.to eight.result d.result.end d.result.value x.result p.0 p.1 eight.ensures.3 d.ensures.0 d.ensures.3 x.ensures)
+    let x = c.find-end in (
+      no_digit a.on a.s.now a.from a.to eight.result d.result.end d.result.value x.result p.0 p.1 eight.ensures.3 d.ensures.0 d.ensures.3
+          x.ensures c.if-e-from.true,
+      word_ends a.on a.s.now a.from a.to eight.result d.result.end d.result.value x.result p.0 p.1
+          eight.ensures.3 d.ensures.0 d.ensures.3 x.ensures,
+    )
 
 pub returns-then-e-from-gt7 : goal.returns-then-e-from-gt7
 returns-then-e-from-gt7 c =
@@ -22,8 +26,12 @@ returns-then-e-from-gt7 c =
     let p = c.requires in
     let eight = c.eight_bytes in
     let d = c.digits-d in
-    let x = c.find-end in
-    (too_long a.on a.s.now a.from a.to eight.result d.result.end d.result.value x.result p.0 p.1 eight.ensures.3 d.ensures.0 d.ensures.3 x.ensures (omega arith), word_ends a.on a.s.now a.from a.to eight.result d.result.end d.result.value x.result p.0 p.1 eight.ensures.3 d.ensures.0 d.ensures.3 x.ensures)
+    let x = c.find-end in (
+      too_long a.on a.s.now a.from a.to eight.result d.result.end d.result.value x.result p.0 p.1 eight.ensures.3 d.ensures.0 d.ensures.3
+          x.ensures (omega arith),
+      word_ends a.on a.s.now a.from a.to eight.result d.result.end d.result.value x.result p.0 p.1
+          eight.ensures.3 d.ensures.0 d.ensures.3 x.ensures,
+    )
 
 pub returns-then-e-from-gt1 : goal.returns-then-e-from-gt1
 returns-then-e-from-gt1 c =
@@ -31,8 +39,12 @@ returns-then-e-from-gt1 c =
     let p = c.requires in
     let eight = c.eight_bytes in
     let d = c.digits-d in
-    let x = c.find-end in
-    (leading_zero a.on a.s.now a.from a.to eight.result d.result.end d.result.value x.result p.0 p.1 eight.ensures.3 d.ensures.0 d.ensures.3 x.ensures c.if-s-from-eq48.true c.if-e-from-gt1.true, word_ends a.on a.s.now a.from a.to eight.result d.result.end d.result.value x.result p.0 p.1 eight.ensures.3 d.ensures.0 d.ensures.3 x.ensures)
+    let x = c.find-end in (
+      leading_zero a.on a.s.now a.from a.to eight.result d.result.end d.result.value x.result p.0 p.1 eight.ensures.3 d.ensures.0
+          d.ensures.3 x.ensures c.if-s-from-eq48.true c.if-e-from-gt1.true,
+      word_ends a.on a.s.now a.from a.to eight.result d.result.end
+          d.result.value x.result p.0 p.1 eight.ensures.3 d.ensures.0 d.ensures.3 x.ensures,
+    )
 
 pub returns : goal.returns
 returns c =
@@ -46,5 +58,9 @@ returns c =
     elim c.if-s-from-eq48.branch [
       | then-s-from-eq48+else-e-from-gt1 w ↦ λ z. omega arith
       | else-s-from-eq48 w ↦ λ z. absurd (w.if-s-from-eq48.false z)
-    ] in
-    (c.numbered.ensures ∙ a_number a.on a.s.now a.from a.to eight.result d.result.end d.result.value x.result p.0 p.1 eight.ensures.3 d.ensures.0 d.ensures.3 x.ensures some (omega arith) zero, word_ends a.on a.s.now a.from a.to eight.result d.result.end d.result.value x.result p.0 p.1 eight.ensures.3 d.ensures.0 d.ensures.3 x.ensures)
+    ] in (
+      c.numbered.ensures ∙ a_number a.on a.s.now a.from a.to eight.result d.result.end d.result.value x.result p.0 p.1 eight.ensures.3
+          d.ensures.0 d.ensures.3 x.ensures some (omega arith) zero,
+      word_ends a.on a.s.now a.from a.to eight.result d.result.end
+          d.result.value x.result p.0 p.1 eight.ensures.3 d.ensures.0 d.ensures.3 x.ensures,
+    )

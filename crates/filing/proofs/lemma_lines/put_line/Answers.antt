@@ -29,7 +29,8 @@ loop-i-preserved c =
     let word : ℕ → List ℕ = λ j. word_text a.labels.now a.names.now a.m j (num (keys_of a.items.now a.row) j) in
     let z = get_or a.items.now (a.row.at + o.i) (pos 0) in
     let e : c.key.result ≡ num (keys_of a.items.now a.row) o.i =
-    c.key.ensures ∙ ap key (to_z-of_z w16 z (record { sfits = c.key-arg-1.given })) ∙ sym (get_d_tab a.row.len _ o.i 0 c.loop-i-test.true) in
+    c.key.ensures ∙ ap key (to_z-of_z w16 z (record { sfits = c.key-arg-1.given }))
+    ∙ sym (get_d_tab a.row.len _ o.i 0 c.loop-i-test.true) in
     let next = row_next 6 word a.line.now 0 o.i o.invariant.1 (rw e at c.put_word-end.ensures) (omega (arith, room)) in
     (omega arith, next, put_length next (omega (arith, room)))
 
@@ -40,4 +41,5 @@ returns c =
     let room = c.requires.0 in
     let e : o.i ≡ a.row.len = omega arith in
     let words = rw e at o.invariant.1 in
-    line_is a.labels.now a.names.now a.m (keys_of a.items.now a.row) a.row.len (length_tab a.row.len _) (put_then words (put_fits c.put_byte.ensures (omega (arith, room, o.invariant.1.short))) (omega (arith, room)))
+    line_is a.labels.now a.names.now a.m (keys_of a.items.now a.row) a.row.len (length_tab a.row.len _)
+    (put_then words (put_fits c.put_byte.ensures (omega (arith, room, o.invariant.1.short))) (omega (arith, room)))

@@ -9,7 +9,9 @@ use Rattle.filing.specs.Row.{keys_of}
 use Rattle.filing.proofs.lemma_lines.put_line.Given as goal
 
 abbrev pub invariant-loop-i : goal.invariant-loop-i
-invariant-loop-i l = (l.i ≤ l.row.len) × Put (l.i * 6) l.initial.line 0 (each l.i (λ j. word_text l.labels l.names l.m j (num (keys_of l.items l.row) j))) l.end l.line × (length l.line ≡ length l.initial.line)
+invariant-loop-i l = (l.i ≤ l.row.len)
+    × Put (l.i * 6) l.initial.line 0 (each l.i (λ j. word_text l.labels l.names l.m j (num (keys_of l.items l.row) j))) l.end l.line
+    × (length l.line ≡ length l.initial.line)
 
 abbrev pub decreases-loop-i : goal.decreases-loop-i
 decreases-loop-i l = l.row.len - l.i

@@ -32,7 +32,8 @@ returns-then-row-eq0 c =
     let a = c.args in
     let o = c.loop-left in
     let row = c.next_row-row in
-    going_ends o.invariant.2 (past_none a.labels.now a.names.now a.m (all_keys a.items.now a.lengths.now a.count) (keys_of a.items.now o.last) (keys_of a.items.now row.result) row.ensures.1 (no_keys a.items.now row.result c.if-row-eq0.true))
+    going_ends o.invariant.2 (past_none a.labels.now a.names.now a.m (all_keys a.items.now a.lengths.now a.count)
+    (keys_of a.items.now o.last) (keys_of a.items.now row.result) row.ensures.1 (no_keys a.items.now row.result c.if-row-eq0.true))
 
 pub loop-left-preserved : goal.loop-left-preserved
 loop-left-preserved c =
@@ -61,4 +62,5 @@ pub returns : goal.returns
 returns c =
     let a = c.args in
     let o = c.loop-left in
-    going_ends o.invariant.2 (past_done a.labels.now a.names.now a.m (all_keys a.items.now a.lengths.now a.count) (keys_of a.items.now o.last) (omega (arith, o.invariant.1)))
+    going_ends o.invariant.2 (past_done a.labels.now a.names.now a.m (all_keys a.items.now a.lengths.now a.count)
+    (keys_of a.items.now o.last) (omega (arith, o.invariant.1)))

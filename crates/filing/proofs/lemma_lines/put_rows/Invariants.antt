@@ -16,7 +16,8 @@ abbrev pub invariant-loop-left : goal.invariant-loop-left
 invariant-loop-left l =
     Fit l.last
     × (length (after (from_left ltb) (all_keys l.items l.lengths l.count) (keys_of l.items l.last)) ≤ l.left)
-    × Going l.initial.out l.at (lines_past l.labels l.names l.m (all_keys l.items l.lengths l.count) []) l.out l.end (lines_past l.labels l.names l.m (all_keys l.items l.lengths l.count) (keys_of l.items l.last))
+    × Going l.initial.out l.at (lines_past l.labels l.names l.m (all_keys l.items l.lengths l.count) []) l.out l.end
+    (lines_past l.labels l.names l.m (all_keys l.items l.lengths l.count) (keys_of l.items l.last))
     × (length l.line ≡ 6 * max_names + 1)
 
 abbrev pub decreases-loop-left : goal.decreases-loop-left

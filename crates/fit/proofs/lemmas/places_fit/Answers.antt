@@ -37,5 +37,6 @@ pub loop-i-preserved : goal.loop-i-preserved
 loop-i-preserved c = let a = c.args in
     let l = c.loop-i in (
       omega arith,
-      all_next (place_at a.items.now a.w a.n a.k) l.i _ l.invariant.1 (seen (goal.at.loop-i-preserved c).After-place_fits) (not-false _ (ap not c.if-not-place_fits.false)),
+      all_next (place_at a.items.now a.w a.n a.k) l.i _ l.invariant.1 (seen (goal.at.loop-i-preserved c).After-place_fits)
+          (not-false _ (ap not c.if-not-place_fits.false)),
     )

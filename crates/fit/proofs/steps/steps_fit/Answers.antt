@@ -19,7 +19,8 @@ step_fits-requires c = let l = c.loop-c in
     (search rules, omega arith, search rules, l.invariant.1)
 
 pub returns-then-not-step_fits : goal.returns-then-not-step_fits
-returns-then-not-step_fits c = steps_stop c.args.p c.loop-c.c _ c.loop-c-test.true c.step_fits.ensures (not-true _ (ap not c.if-not-step_fits.true))
+returns-then-not-step_fits c = steps_stop c.args.p c.loop-c.c _ c.loop-c-test.true c.step_fits.ensures
+    (not-true _ (ap not c.if-not-step_fits.true))
 
 pub loop-c-preserved : goal.loop-c-preserved
 loop-c-preserved c = let P = c.args.p in

@@ -17,14 +17,22 @@ room c = omega (arith, short c, left_length c.args.out.now c.args.at)
 
 pub returns-in_default : goal.returns-in_default
 returns-in_default c =
-    absurd (given_short ((header c.args.variables c.args.clauses)) _ _ (room (goal.at.returns-in_default c).Start) _ c.header_text.ensures c.in_default.is)
+    absurd (given_short ((header c.args.variables c.args.clauses)) _ _ (room (goal.at.returns-in_default c).Start) _
+    c.header_text.ensures c.in_default.is)
 
 pub overflow_add-result : goal.overflow_add-result
 overflow_add-result c =
-    let (size, _) = given_bytes ((header c.args.variables c.args.clauses)) _ _ (room (goal.at.overflow_add-result c).Start) _ c.header_text.ensures _ c.in-Bytes.is in
+    let (size, _) = given_bytes ((header c.args.variables c.args.clauses)) _ _ (room (goal.at.overflow_add-result c).Start) _
+    c.header_text.ensures _ c.in-Bytes.is in
     omega (arith, short (goal.at.overflow_add-result c).Start, c.well_formed)
 
 pub returns : goal.returns
 returns c =
-    let (size, holds) = given_bytes ((header c.args.variables c.args.clauses)) _ _ (room (goal.at.returns c).Start) _ c.header_text.ensures _ c.in-Bytes.is in
-    record { short = short (goal.at.returns c).Start; behind = omega arith; holds = part_at c.args.out.now c.args.at _ ((header c.args.variables c.args.clauses)) holds }
+    let (size, holds) = given_bytes ((header c.args.variables c.args.clauses)) _ _ (room (goal.at.returns c).Start) _
+    c.header_text.ensures _ c.in-Bytes.is in
+    record {
+      short = short (goal.at.returns c).Start;
+      behind = omega arith;
+      holds = part_at c.args.out.now c.args.at _
+          ((header c.args.variables c.args.clauses)) holds;
+    }

@@ -46,4 +46,5 @@ returns c =
     let text = c.numbers_text-texted in
     rw (← room)
     (piece_text a.j a.c _ _ _ w.ensures _ _ c.in-Piece.is (omega (arith, c.numbers-1.given, lent (goal.at.returns c).After-least-room))
-    _ a.out.now _ _ (text.ensures.value, text.ensures.count_value) (omega (arith, lent (goal.at.returns c).After-least-room, c.least-room.ensures)))
+    _ a.out.now _ _ (text.ensures.value, text.ensures.count_value)
+    (omega (arith, lent (goal.at.returns c).After-least-room, c.least-room.ensures)))

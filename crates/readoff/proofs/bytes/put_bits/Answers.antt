@@ -19,6 +19,7 @@ loop-x-preserved c = let a = c.args in
     let x = c.loop-x.x in
     let room : a.to + x < length a.run.now = omega arith in (
       omega arith,
-      ap (λ l. set l (a.to + x) c.byte_of.result) c.loop-x.invariant.1 ∙ row_grows a.run.now a.to x (λ j. byte (value_at a.values.now (a.from + j))) c.byte_of.result c.byte_of.ensures room,
+      ap (λ l. set l (a.to + x) c.byte_of.result) c.loop-x.invariant.1
+          ∙ row_grows a.run.now a.to x (λ j. byte (value_at a.values.now (a.from + j))) c.byte_of.result c.byte_of.ensures room,
       simp length-set c.loop-x.invariant.2,
     )

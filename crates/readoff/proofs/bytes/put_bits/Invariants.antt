@@ -9,7 +9,8 @@ use Rattle.job.specs.Satisfaction.{value_at}
 use Rattle.readoff.proofs.bytes.put_bits.Given as goal
 
 abbrev pub invariant-loop-x : goal.invariant-loop-x
-invariant-loop-x l = (l.x ≤ l.n) × (l.run ≡ write l.initial.run l.to (tab l.x λ j. byte (value_at l.values (l.from + j)))) × (length l.run ≡ length l.initial.run)
+invariant-loop-x l = (l.x ≤ l.n) × (l.run ≡ write l.initial.run l.to (tab l.x λ j. byte (value_at l.values (l.from + j))))
+    × (length l.run ≡ length l.initial.run)
 
 abbrev pub decreases-loop-x : goal.decreases-loop-x
 decreases-loop-x l = l.n - l.x

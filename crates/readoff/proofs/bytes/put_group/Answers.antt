@@ -16,4 +16,5 @@ returns c =
     let times2 = c.times in
     let a = c.args in
     let g = group_is a.p a.values.now a.t pre.1 pre.4 _ _ _ _ times.ensures last_step.ensures.0 last_step2.ensures.0 turn_byte.ensures in
-    put_bytes.ensures ∙ ap (λ x. write a.run.now times2.result x) g ∙ ap (λ k. write a.run.now k (group a.p (run_read a.p a.values.now) a.t)) times2.ensures
+    put_bytes.ensures ∙ ap (λ x. write a.run.now times2.result x) g
+    ∙ ap (λ k. write a.run.now k (group a.p (run_read a.p a.values.now) a.t)) times2.ensures

@@ -16,11 +16,13 @@ returns-then-values-turns-eq1 c =
     let a = c.args in
     let if1 = c.if-p-t in
     let times = c.times-turns in
-    let k = ap (λ k. k * w a.p) (add-one a.p.bound) in turn_a a.p a.values.now a.t if1.false _ (times.ensures ∙ k) c.if-values-turns-eq1.true
+    let k = ap (λ k. k * w a.p) (add-one a.p.bound) in turn_a a.p a.values.now a.t if1.false _ (times.ensures ∙ k)
+    c.if-values-turns-eq1.true
 
 pub returns-else-values-turns-eq1 : goal.returns-else-values-turns-eq1
 returns-else-values-turns-eq1 c =
     let a = c.args in
     let if1 = c.if-p-t in
     let times = c.times-turns in
-    let k = ap (λ k. k * w a.p) (add-one a.p.bound) in turn_b a.p a.values.now a.t if1.false _ (times.ensures ∙ k) c.if-values-turns-eq1.false
+    let k = ap (λ k. k * w a.p) (add-one a.p.bound) in turn_b a.p a.values.now a.t if1.false _ (times.ensures ∙ k)
+    c.if-values-turns-eq1.false

@@ -8,7 +8,8 @@ use Rattle.job.specs.ReadOff.{run_read, group}
 use Rattle.readoff.proofs.bytes.write_run.Given as goal
 
 abbrev pub invariant-loop-t : goal.invariant-loop-t
-invariant-loop-t l = (l.t ≤ suc l.p.bound) × (l.run ≡ write l.initial.run 0 (each l.t (group l.p (run_read l.p l.values)))) × (length l.run ≡ length l.initial.run)
+invariant-loop-t l = (l.t ≤ suc l.p.bound) × (l.run ≡ write l.initial.run 0 (each l.t (group l.p (run_read l.p l.values))))
+    × (length l.run ≡ length l.initial.run)
 
 abbrev pub decreases-loop-t : goal.decreases-loop-t
 decreases-loop-t l = suc l.p.bound - l.t

@@ -27,7 +27,8 @@ pub loop-at-preserved : goal.loop-at-preserved
 loop-at-preserved c =
     let o = c.loop-at in
     let i = o.invariant in
-    let w = write_next c.args.text.now o.at c.end_of-e.result c.loop-at-test.true c.end_of-e.ensures (sym c.is_lemmas.ensures ∙ c.if-is_lemmas.false)
+    let w = write_next c.args.text.now o.at c.end_of-e.result c.loop-at-test.true c.end_of-e.ensures (sym c.is_lemmas.ensures
+    ∙ c.if-is_lemmas.false)
     c.put_remark-end.ensures (omega (arith, i.0, i.2, c.requires)) in
     (w.0 ∙ i.0, w.1 ∙ i.1, w.2 ∙ i.2)
 

@@ -15,5 +15,6 @@ loop-x-preserved c = let a = c.args in
     let o = c.loop-x in
     let room = c.requires.0 in
     let bit = rw c.group_byte.ensures at c.put_bit-end.ensures in
-    let next = row_next 26 (λ x. bit_text a.names.now x (group_of a.n a.run.now a.t (2 + x))) a.out.now a.at o.x o.invariant.1 bit (omega (arith, room)) in
+    let next = row_next 26 (λ x. bit_text a.names.now x (group_of a.n a.run.now a.t (2 + x))) a.out.now a.at o.x o.invariant.1 bit
+    (omega (arith, room)) in
     (omega arith, next, put_length next (omega (arith, room)))

@@ -8,7 +8,8 @@ use Rattle.text.proofs.run.put_bits.Given as goal
 
 abbrev pub invariant-loop-x : goal.invariant-loop-x
 invariant-loop-x l =
-    (l.x ≤ l.n) × Put (l.x * 26) l.initial.out l.at (bits_text l.names l.x (group_of l.n l.run l.t)) l.end l.out × (length l.out ≡ length l.initial.out)
+    (l.x ≤ l.n) × Put (l.x * 26) l.initial.out l.at (bits_text l.names l.x (group_of l.n l.run l.t)) l.end l.out
+    × (length l.out ≡ length l.initial.out)
 
 abbrev pub decreases-loop-x : goal.decreases-loop-x
 decreases-loop-x l = l.n - l.x

@@ -13,7 +13,8 @@ pub returns-then-b-eq2 : goal.returns-then-b-eq2
 unfolding turn_text
 returns-then-b-eq2 c =
     let start = c.before.before in
-    rw (ne_eqb start.args.b 1 c.if-b-eq1.false, eq-eqb start.args.b 2 c.if-b-eq2.true) (put_fits c.put_part-then-b-eq2.ensures (omega arith))
+    rw (ne_eqb start.args.b 1 c.if-b-eq1.false, eq-eqb start.args.b 2 c.if-b-eq2.true)
+    (put_fits c.put_part-then-b-eq2.ensures (omega arith))
 
 pub returns : goal.returns
 unfolding turn_text

@@ -18,10 +18,12 @@ use Rattle.text.proofs.told.put_told.Goals.{After-put_digits}
 size : (x : ℤ) (n : ℕ) → SFits w32 x → n ≡ nat_abs (to_z w32 (of_z w32 x)) → n ≡ nat_abs x
 size x n fits e = e ∙ ap nat_abs (back x fits)
 
-written : (c : After-put_digits) → c.put_digits.new.out ≡ write c.args.out.now (c.args.end - 1 - length (numeral (nat_abs c.args.x))) (numeral (nat_abs c.args.x))
+written : (c : After-put_digits) → c.put_digits.new.out ≡ write c.args.out.now (c.args.end - 1 - length (numeral (nat_abs c.args.x)))
+    (numeral (nat_abs c.args.x))
 written c =
     let a = c.args in
-    c.put_digits.ensures ∙ ap (λ (x : ℕ). write a.out.now (a.end - 1 - length (numeral x)) (numeral x)) (size a.x _ c.ranges.x c.magnitude-size.ensures)
+    c.put_digits.ensures ∙ ap (λ (x : ℕ). write a.out.now (a.end - 1 - length (numeral x)) (numeral x))
+    (size a.x _ c.ranges.x c.magnitude-size.ensures)
 
 longer : (c : After-put_digits) → length c.put_digits.new.out ≡ length c.args.out.now
 longer c =
@@ -46,7 +48,8 @@ pub returns-then-size-eq0 : goal.returns-then-size-eq0
 returns-then-size-eq0 c =
     let a = c.args in
     let h : nat_abs a.x ≡ 0 = sym (size c.args.x _ c.ranges.x c.magnitude-size.ensures) ∙ c.if-size-eq0.true in
-    put_zero a.out.now _ a.at a.end a.x c.requires.0 c.requires.1 (written (goal.at.returns-then-size-eq0 c).After-put_digits) h (zero_not_less a.x h)
+    put_zero a.out.now _ a.at a.end a.x c.requires.0 c.requires.1 (written (goal.at.returns-then-size-eq0 c).After-put_digits) h
+    (zero_not_less a.x h)
 
 pub overflow_sub-out-2 : goal.overflow_sub-out-2
 overflow_sub-out-2 c = omega (arith, length_told c.args.x, c.requires.0)

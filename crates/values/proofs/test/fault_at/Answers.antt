@@ -22,7 +22,8 @@ returns-then-not-time_fits c =
     let loop_test = c.loop-t-test in
     let a = c.args in
     let f = time_fits a.p a.lengths.now a.items.now a.count a.run.now in
-    sym (row_found f loop.t (suc a.p.bound) loop.invariant.1 (sym time_fits_lem.ensures ∙ not-true _ (ap not c.if-not-time_fits.true)) (omega (arith, loop_test.true)))
+    sym (row_found f loop.t (suc a.p.bound) loop.invariant.1 (sym time_fits_lem.ensures ∙ not-true _ (ap not c.if-not-time_fits.true))
+    (omega (arith, loop_test.true)))
 
 pub loop-t-preserved : goal.loop-t-preserved
 loop-t-preserved c =
