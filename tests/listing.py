@@ -3,6 +3,7 @@
 evaluation of the definitions is held to what the separate generator prints."""
 import sys
 
+LONGEST, WIDTH = 138, 137   # a longer row is broken, its lines at this width
 number = lambda n: f"pos {n}" if n > 0 else f"neg {-n}"
 variables = clauses = 0
 rows = []
@@ -28,5 +29,15 @@ variables = {variables}
 abbrev pub clauses : List (List ℤ)
 clauses =""")
 for row in rows:
-    print("    (" + " ∷ ".join([*map(number, row), "[]"]) + ") ∷")
+    first, *more = [*map(number, row), "[])"]
+    line = f"    ({first}"
+    if len(" ∷ ".join([line, *more])) > LONGEST:
+        for part in more:
+            if len(f"{line} ∷ {part}") > WIDTH:
+                print(line)
+                line = "   "
+            line += f" ∷ {part}"
+    else:
+        line = " ∷ ".join([line, *more])
+    print(line + " ∷")
 print("    []")
