@@ -20,29 +20,25 @@ pub enum Place {
 }
 
 // Place c of a row becomes x; past the end of the row nothing changes.
-pub(crate) fn changed(mut j: Job, place: Place, c: usize, x: u8) -> Job {
+pub(crate) fn changed(mut job: Job, place: Place, c: usize, x: u8) -> Job {
     if Job::STEPS <= c {
-        return j;
+        return job;
     }
-    let mut p = j.program;
-    let n = x as usize;
-    let to = x as u16;
-    let item = x as i16;
+    let program = &mut job.program;
     match place {
-        Place::Bound => p.bound = n,
-        Place::Steps => p.steps = n,
-        Place::Variables => p.variables = n,
-        Place::Process => p.process[c] = x,
-        Place::Kind => p.kind[c] = x,
-        Place::To => p.to[c] = to,
-        Place::Other => p.other[c] = to,
-        Place::Variable => p.variable[c] = x,
-        Place::Value => p.value[c] = x,
-        Place::Lemmas => j.lemmas = n,
-        Place::Length => j.lengths[c] = x,
-        Place::Item => j.items[c] = item,
-        Place::Negated => j.items[c] = -7,
+        Place::Bound => program.bound = usize::from(x),
+        Place::Steps => program.steps = usize::from(x),
+        Place::Variables => program.variables = usize::from(x),
+        Place::Process => program.process[c] = x,
+        Place::Kind => program.kind[c] = x,
+        Place::To => program.to[c] = u16::from(x),
+        Place::Other => program.other[c] = u16::from(x),
+        Place::Variable => program.variable[c] = x,
+        Place::Value => program.value[c] = x,
+        Place::Lemmas => job.lemmas = usize::from(x),
+        Place::Length => job.lengths[c] = x,
+        Place::Item => job.items[c] = i16::from(x),
+        Place::Negated => job.items[c] = -7,
     }
-    j.program = p;
-    j
+    job
 }

@@ -1,23 +1,16 @@
 // Three tables that fit.
-use job::{Job, Program};
+ghost use Rattle.std.specs.Prelude.{◌≤◌};
+ghost use Rattle.job.specs.Limits.{max_steps};
 
-// Four numbers, and zeros behind them.
-fn row(a: u8, b: u8, c: u8, d: u8) -> [u8; Job::STEPS] {
-    let mut xs = [0; Job::STEPS];
-    xs[0] = a;
-    xs[1] = b;
-    xs[2] = c;
-    xs[3] = d;
-    xs
-}
+use job::{Job, Kind, Program, Word};
 
-fn wide_row(a: u16, b: u16, c: u16, d: u16) -> [u16; Job::STEPS] {
-    let mut xs = [0; Job::STEPS];
-    xs[0] = a;
-    xs[1] = b;
-    xs[2] = c;
-    xs[3] = d;
-    xs
+// A few numbers, and zeros behind them.
+fn row<T: Copy + Default, const N: usize>(front: [T; N]) -> [T; Job::STEPS]
+    requires { N ≤ max_steps }
+{
+    let mut numbers = [T::default(); Job::STEPS];
+    numbers[..N].copy_from_slice(&front);
+    numbers
 }
 
 // A lemma of one name, and one of two.
@@ -45,24 +38,24 @@ fn job(
     }
 }
 
-// Document 01, 'A job in full': `A0 a=1 goto A0`, `B0 maybe goto B0`; with 1 lemma, `~a`.
-pub(crate) fn one_bit(lemmas: u8) -> Job {
+// Document 01, 'A job in full': `A0 a=1 goto A0`, `B0 maybe goto B0`; with or without the lemma `~a`.
+pub(crate) fn one_bit(with_lemma: bool) -> Job {
     let program = Program {
         bound: 1,
-        word: Job::NO_WORD,
+        word: Word::Free as u8,
         steps: 2,
         variables: 1,
-        process: row(1, 2, 0, 0),
-        kind: row(3, 1, 0, 0),
-        to: wide_row(1, 2, 0, 0),
-        other: wide_row(0, 0, 0, 0),
-        variable: row(1, 0, 0, 0),
-        value: row(1, 0, 0, 0),
+        process: row([1, 2]),
+        kind: row([Kind::Assign as u8, Kind::Maybe as u8]),
+        to: row([1, 2]),
+        other: [0; Job::STEPS],
+        variable: row([1]),
+        value: row([1]),
     };
-    if lemmas == 0 {
-        job(program, 0, row(0, 0, 0, 0), items(0, 0, 0))
+    if with_lemma {
+        job(program, 1, row([1]), items(-3, 0, 0))
     } else {
-        job(program, 1, row(1, 0, 0, 0), items(-3, 0, 0))
+        job(program, 0, [0; Job::LEMMAS], items(0, 0, 0))
     }
 }
 
@@ -74,23 +67,26 @@ pub(crate) fn four_steps(word: u8) -> Job {
         word,
         steps: 4,
         variables: 2,
-        process: row(1, 1, 2, 2),
-        kind: row(2, 4, 1, 3),
-        to: wide_row(2, 1, 3, 3),
-        other: wide_row(0, 2, 0, 0),
-        variable: row(0, 1, 0, 2),
-        value: row(0, 1, 0, 0),
+        process: row([1, 1, 2, 2]),
+        kind: row([
+            Kind::Critical as u8,
+            Kind::If as u8,
+            Kind::Maybe as u8,
+            Kind::Assign as u8,
+        ]),
+        to: row([2, 1, 3, 3]),
+        other: row([0, 2]),
+        variable: row([0, 1, 0, 2]),
+        value: row([0, 1]),
     };
-    job(program, 2, row(1, 2, 0, 0), items(-1, 5, -6))
+    job(program, 2, row([1, 2]), items(-1, 5, -6))
 }
 
 // 1, 2, 3, ..
 fn numbers() -> [u8; Job::STEPS] {
     let mut xs = [0; Job::STEPS];
-    let mut c: usize = 0;
-    while c < Job::STEPS {
+    for c in 0..Job::STEPS {
         xs[c] = (c + 1) as u8;
-        c += 1;
     }
     xs
 }
@@ -103,11 +99,11 @@ pub(crate) fn largest() -> Job {
     to[Job::STEPS - 1] = Job::STEPS as u16;
     let program = Program {
         bound: Job::BOUND,
-        word: Job::NO_WORD,
+        word: Word::Free as u8,
         steps: Job::STEPS,
         variables: Job::STEPS,
         process,
-        kind: [3; Job::STEPS],
+        kind: [Kind::Assign as u8; Job::STEPS],
         to,
         other: [0; Job::STEPS],
         variable: numbers(),

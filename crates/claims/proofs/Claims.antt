@@ -9,6 +9,7 @@ use Rattle.pieces.proofs.Joined.{all_clauses}
 use Rattle.reply.proofs.Accepted.{accepted_exactly}
 use Rattle.reply.proofs.PlainReply.{plain_replies}
 use Rattle.form.specs.OneForm.{IsJob, job_of}
+use Rattle.form.proofs.AcceptedLaws.{is_job}
 use Rattle.form.proofs.OneForm.{one_form, equal_exactly}
 use Rattle.claims.specs.Claims.{Claims}
 use Rattle.claims.proofs.Calls.{accurate_calls}
@@ -19,7 +20,7 @@ use Rattle.claims.proofs.Filed.{filed_whole}
 pub claims : (text : List ℕ) → IsJob text → Claims text
 claims text is =
     let J = job_of text in
-    let fits = accepted_fit text is in
+    let fits = accepted_fit text J (is_job text is) in
     record {
       all_clauses = all_clauses J fits;
       in_range = in_range J fits;

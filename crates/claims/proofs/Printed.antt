@@ -2,13 +2,12 @@
 use mathlib.Core.Path.{◌≡◌, refl, sym, ap, ◌∙◌}
 use mathlib.Core.Bool.{true}
 use mathlib.Core.List.{List, [], ◌∷◌, ◌++◌}
-use Prim.Native.Nat.{ℕ, ◌+◌, ◌-◌, ◌≤◌}
+use Prim.Native.Nat.{ℕ, ◌+◌, ◌≤◌}
 use native.Mathlib.Omega.{arith}
 use lib.ListN.{length}
 use Rattle.job.specs.declared.Job.{Job}
 use Rattle.job.specs.Fitness.{fit}
 use Rattle.cnf.specs.Piece.{flat, piece}
-use Rattle.parse.specs.Answers.{answer_of}
 use Rattle.parse.specs.Reading.{read_job}
 use Rattle.parse.proofs.AcceptedFit.{accepted_fit}
 use Rattle.pieces.specs.AllClauses.{joined, Roomy}
@@ -17,6 +16,7 @@ use Rattle.text.specs.Dimacs.{numbers_text}
 use Rattle.outputs.specs.Dimacs.{clause_text, dimacs, opened}
 use Rattle.outputs.proofs.PieceLaws.{clause_text_append, next_is}
 use Rattle.form.specs.OneForm.{IsJob, job_of}
+use Rattle.form.proofs.AcceptedLaws.{is_job}
 use Rattle.claims.specs.Printed.{piece_texts, PrintedWhole}
 
 module _ (J : Job) (h : fit J ≡ true) where
@@ -33,6 +33,6 @@ pub printed_whole : (text : List ℕ) → IsJob text → PrintedWhole text
 unfolding read_job opened dimacs
 printed_whole text is rooms wide enough =
     let J = job_of text in
-    let fits = accepted_fit text is in
+    let fits = accepted_fit text J (is_job text is) in
     let pieces = texts_joined J fits 1 rooms (omega arith) wide ∙ ap clause_text ((all_clauses J fits).pieces rooms wide enough) in
-    ap (λ l. opened text ++ l) pieces ∙ rw (ap answer_of is)
+    ap (λ l. opened text ++ l) pieces ∙ rw (is_job text is)

@@ -1,3 +1,2 @@
--- The laws of the definitions: the ways out of a field reader, and where the cursor then stands.
-pub mod FieldLaws
+-- Where the cursor stands after a field that was read.
 pub mod CursorLaws

@@ -1,18 +1,21 @@
-// The field readers, each lent the line and handed a cursor by value: `lent` has them lent the cursor.
+// The field readers, each lent the line and handed a cursor by value: the answer is the cursor moved on, or what is turned away.
+// `lent` has them lent the cursor.
 #![tactic(auto)]
 
-ghost use Rattle.std.specs.Prelude.{◌≡◌, ◌-◌, ◌≤◌, length, drop};
-ghost use Rattle.std.proofs.Math.Seq.{slice};
+ghost use Rattle.std.specs.Prelude.{◌≡◌, length, drop};
 ghost use Rattle.lists.specs.Pieces.{is};
 ghost use Rattle.scan.specs.Bytes.{alnum as is_alnum, all_of, headed};
-ghost use Rattle.fields.specs.Fields.{number_of, word_field, name_field, variable_field, to_field, other_field};
+ghost use Rattle.fields.specs.Fields.{word_field, name_field, variable_field, to_field, other_field};
 ghost use Rattle.fields.specs.Fields.{fixed_field, space_field, equals_field, goto_field, else_field, bound_field};
-ghost use Rattle.fields.specs.Fields.{digit as is_digit, bit_field, range_field, end_field, step_end_field, whole_line};
+ghost use Rattle.fields.specs.Fields.{bit_field, range_field, end_field, step_end_field, whole_line};
 ghost use Rattle.fields.specs.Fields.{is_word as word_of_line1, bound_end_field};
 ghost use Rattle.scan.specs.Lines.{row};
 
+use job::Fault;
+use lists::get_or;
+
 // A place in a text: the line's number, and a column of the line.
-#[derive(Clone, Copy)]
+#[derive(Clone, Copy, PartialEq, Eq, Debug)]
 pub struct Cursor {
     pub line: usize,
     pub column: usize,
@@ -23,155 +26,65 @@ impl Cursor {
     pub const COLUMNS: usize = 1022;
 }
 
-// A field's answer: read, or a number of document 01.
-#[derive(Clone, Copy)]
-pub enum Field {
-    Read,
-    No(u8),
-}
-
-// The numbers of document 01, 'What is turned away', that a line's fields have.
-impl Field {
-    pub const LINE_LONG: u8 = 2;
-
-    pub const LINE_BYTE: u8 = 3;
-
-    pub const LINE_OPEN: u8 = 4;
-
-    pub const LINE_1: u8 = 5;
-
-    pub const NAME_LONG: u8 = 10;
-
-    pub const NAME_ILL: u8 = 11;
-
-    pub const NAME_USED: u8 = 12;
-
-    pub const NO_SPACE: u8 = 13;
-
-    pub const TEXT_AFTER: u8 = 14;
-
-    pub const NO_GOTO: u8 = 16;
-
-    pub const TO_ILL: u8 = 17;
-
-    pub const NO_EQUALS: u8 = 18;
-    // If step ends badly: no line does, since M takes all that follows it.
-    pub const IF_END: u8 = 19;
-
-    pub const VARIABLE_LONG: u8 = 20;
-
-    pub const VARIABLE_ILL: u8 = 21;
-
-    pub const VALUE: u8 = 22;
-
-    pub const NO_ELSE: u8 = 23;
-
-    pub const OTHER_ILL: u8 = 24;
-}
-
-// A field's answer, and the cursor: moved on, or where it was.
-#[derive(Clone, Copy)]
-pub struct Moved {
-    pub field: Field,
-    pub at: Cursor,
-}
-
+#[tactic(auto, unfolding(scan::specs::Bytes::alnum, lists::specs::Tests::within, lists::specs::Tests::every))]
 fn alnum(b: u8) -> bool
     ensures { result ≡ is_alnum b }
 {
-    if b < b'0' {
-        return false;
-    }
-    if b <= b'9' {
-        return true;
-    }
-    if b < b'A' {
-        return false;
-    }
-    if b <= b'Z' {
-        return true;
-    }
-    if b < b'a' {
-        return false;
-    }
-    b <= b'z'
+    b.is_ascii_alphanumeric()
 }
 
-fn all_alnum(s: &[u8], from: usize, to: usize) -> bool
-    requires { to ≤ length s.now }
-    ensures { result ≡ all_of is_alnum (slice from to s.now) }
+#[tactic(auto, unfolding(scan::specs::Bytes::all_of))]
+fn all_alnum(word: &[u8]) -> bool
+    ensures { result ≡ all_of is_alnum word.now }
 {
-    let mut i = from;
-    while i < to {
-        if !alnum(s[i]) {
-            return false;
-        }
-        i += 1;
-    }
-    true
+    word.iter().all(|b| alnum(*b))
 }
 
 // Letters or digits, the first from lo to hi.
-fn is_headed(s: &[u8], from: usize, to: usize, lo: u8, hi: u8) -> bool
-    requires { to - from ≤ length s.now - from }
-    ensures { result ≡ headed lo hi (slice from to s.now) }
+#[tactic(auto, unfolding(scan::specs::Bytes::headed))]
+fn is_headed(word: &[u8], lo: u8, hi: u8) -> bool
+    ensures { result ≡ headed lo hi word.now }
 {
-    if to <= from {
+    let Some((first, rest)) = word.split_first() else {
         return false;
-    }
-    let b = s[from];
-    if b < lo {
-        return false;
-    }
-    if hi < b {
-        return false;
-    }
-    all_alnum(s, from + 1, to)
+    };
+    scan::within(*first, lo, hi) && all_alnum(rest)
 }
 
 // A name up to the first stop or the line's end, of at most most letters or digits, the first from lo to hi.
-fn word(s: &[u8], at: Cursor, stop: u8, most: usize, lo: u8, hi: u8, long: u8, ill: u8) -> Moved
+#[tactic(auto, unfolding(crate::specs::Fields::word_field))]
+fn word(
+    s: &[u8],
+    at: Cursor,
+    stop: u8,
+    most: usize,
+    lo: u8,
+    hi: u8,
+    long: Fault,
+    ill: Fault,
+) -> Result<Cursor, Fault>
     ensures { result ≡ word_field stop most lo hi long ill s.now at }
 {
-    let from = at.column;
-    let to = scan::end_of(s, from, stop);
-    if most < to - from {
-        return Moved {
-            field: Field::No(long),
-            at,
-        };
+    let word = scan::word(s, at.column, stop);
+    if most < word.len() {
+        return Err(long);
     }
-    if !is_headed(s, from, to, lo, hi) {
-        return Moved {
-            field: Field::No(ill),
-            at,
-        };
+    if !is_headed(word, lo, hi) {
+        return Err(ill);
     }
-    Moved {
-        field: Field::Read,
-        at: Cursor {
-            line: at.line,
-            column: to,
-        },
-    }
+    Ok(Cursor {
+        column: at.column + word.len(),
+        ..at
+    })
 }
 
-pub fn name(s: &[u8], at: Cursor) -> Moved
+pub fn name(s: &[u8], at: Cursor) -> Result<Cursor, Fault>
     ensures { result ≡ name_field s.now at }
 {
-    word(
-        s,
-        at,
-        b' ',
-        4,
-        b'A',
-        b'B',
-        Field::NAME_LONG,
-        Field::NAME_ILL,
-    )
+    word(s, at, b' ', 4, b'A', b'B', Fault::NameLong, Fault::NameIll)
 }
 
-pub fn variable(s: &[u8], at: Cursor) -> Moved
+pub fn variable(s: &[u8], at: Cursor) -> Result<Cursor, Fault>
     ensures { result ≡ variable_field s.now at }
 {
     word(
@@ -181,234 +94,150 @@ pub fn variable(s: &[u8], at: Cursor) -> Moved
         2,
         b'a',
         b'z',
-        Field::VARIABLE_LONG,
-        Field::VARIABLE_ILL,
+        Fault::VariableLong,
+        Fault::VariableIll,
     )
 }
 
-pub fn to_label(s: &[u8], at: Cursor) -> Moved
+pub fn to_label(s: &[u8], at: Cursor) -> Result<Cursor, Fault>
     ensures { result ≡ to_field s.now at }
 {
-    word(s, at, b' ', 4, b'A', b'B', Field::TO_ILL, Field::TO_ILL)
+    word(s, at, b' ', 4, b'A', b'B', Fault::ToIll, Fault::ToIll)
 }
 
-pub fn other_label(s: &[u8], at: Cursor) -> Moved
+pub fn other_label(s: &[u8], at: Cursor) -> Result<Cursor, Fault>
     ensures { result ≡ other_field s.now at }
 {
-    word(s, at, 10, 4, b'A', b'B', Field::OTHER_ILL, Field::OTHER_ILL)
+    word(s, at, 10, 4, b'A', b'B', Fault::OtherIll, Fault::OtherIll)
 }
 
-fn fixed(s: &[u8], at: Cursor, w: &[u8], number: u8) -> Moved
-    ensures { result ≡ fixed_field w.now number s.now at }
+#[tactic(auto, unfolding(crate::specs::Fields::fixed_field))]
+fn fixed(s: &[u8], at: Cursor, w: &[u8], fault: Fault) -> Result<Cursor, Fault>
+    ensures { result ≡ fixed_field w.now fault s.now at }
 {
-    let from = at.column;
-    if scan::follows(s, from, w) {
-        Moved {
-            field: Field::Read,
-            at: Cursor {
-                line: at.line,
-                column: from + w.len(),
-            },
-        }
-    } else {
-        Moved {
-            field: Field::No(number),
-            at,
-        }
+    if !scan::follows(s, at.column, w) {
+        return Err(fault);
     }
+    Ok(Cursor {
+        column: at.column + w.len(),
+        ..at
+    })
 }
 
-pub fn space(s: &[u8], at: Cursor) -> Moved
+pub fn space(s: &[u8], at: Cursor) -> Result<Cursor, Fault>
     ensures { result ≡ space_field s.now at }
 {
-    fixed(s, at, b" ", Field::NO_SPACE)
+    fixed(s, at, b" ", Fault::NoSpace)
 }
 
-pub fn equals(s: &[u8], at: Cursor) -> Moved
+pub fn equals(s: &[u8], at: Cursor) -> Result<Cursor, Fault>
     ensures { result ≡ equals_field s.now at }
 {
-    fixed(s, at, b"=", Field::NO_EQUALS)
+    fixed(s, at, b"=", Fault::NoEquals)
 }
 
-pub fn goto_word(s: &[u8], at: Cursor) -> Moved
+pub fn goto_word(s: &[u8], at: Cursor) -> Result<Cursor, Fault>
     ensures { result ≡ goto_field s.now at }
 {
-    fixed(s, at, b" goto ", Field::NO_GOTO)
+    fixed(s, at, b" goto ", Fault::NoGoto)
 }
 
-pub fn else_word(s: &[u8], at: Cursor) -> Moved
+pub fn else_word(s: &[u8], at: Cursor) -> Result<Cursor, Fault>
     ensures { result ≡ else_field s.now at }
 {
-    fixed(s, at, b" else ", Field::NO_ELSE)
+    fixed(s, at, b" else ", Fault::NoElse)
 }
 
-pub fn bound_word(s: &[u8], at: Cursor) -> Moved
+pub fn bound_word(s: &[u8], at: Cursor) -> Result<Cursor, Fault>
     ensures { result ≡ bound_field s.now at }
 {
-    fixed(s, at, b"bound ", Field::LINE_1)
+    fixed(s, at, b"bound ", Fault::FirstLine)
 }
 
-pub fn bit(s: &[u8], at: Cursor) -> Moved
+#[tactic(auto, unfolding(crate::specs::Fields::bit_field))]
+pub fn bit(s: &[u8], at: Cursor) -> Result<Cursor, Fault>
     ensures { result ≡ bit_field s.now at }
 {
-    let from = at.column;
-    let b = scan::byte_at(s, from);
-    if b < b'0' {
-        return Moved {
-            field: Field::No(Field::VALUE),
-            at,
-        };
+    let byte = get_or(s, at.column, 0);
+    if !scan::within(byte, b'0', b'1') {
+        return Err(Fault::Value);
     }
-    if b'1' < b {
-        return Moved {
-            field: Field::No(Field::VALUE),
-            at,
-        };
-    }
-    Moved {
-        field: Field::Read,
-        at: Cursor {
-            line: at.line,
-            column: from + 1,
-        },
-    }
+    Ok(Cursor {
+        column: at.column + 1,
+        ..at
+    })
 }
 
 // R, of one digit or two: the second is read where a digit follows.
-pub fn range(s: &[u8], at: Cursor) -> Moved
+#[tactic(auto, unfolding(crate::specs::Fields::range_field, lists::specs::Tests::within, lists::specs::Tests::every))]
+pub fn range(s: &[u8], at: Cursor) -> Result<Cursor, Fault>
     ensures { result ≡ range_field s.now at }
 {
-    let from = at.column;
-    let b = scan::byte_at(s, from);
-    if b < b'1' {
-        return Moved {
-            field: Field::No(Field::LINE_1),
-            at,
-        };
+    if !scan::within(get_or(s, at.column, 0), b'1', b'9') {
+        return Err(Fault::FirstLine);
     }
-    if b'9' < b {
-        return Moved {
-            field: Field::No(Field::LINE_1),
-            at,
-        };
-    }
-    if is_digit(scan::byte_at(s, from + 1)) {
-        Moved {
-            field: Field::Read,
-            at: Cursor {
-                line: at.line,
-                column: from + 2,
-            },
-        }
+    let digits = if get_or(s, at.column + 1, 0).is_ascii_digit() {
+        2
     } else {
-        Moved {
-            field: Field::Read,
-            at: Cursor {
-                line: at.line,
-                column: from + 1,
-            },
-        }
-    }
+        1
+    };
+    Ok(Cursor {
+        column: at.column + digits,
+        ..at
+    })
 }
 
-pub fn is_digit(b: u8) -> bool
-    ensures { result ≡ is_digit b }
-{
-    if b < b'0' { false } else { b <= b'9' }
-}
-
-fn ended(s: &[u8], at: Cursor, number: u8) -> Moved
-    ensures { result ≡ end_field number s.now at }
-{
-    let from = at.column;
-    if s.len() <= from {
-        Moved {
-            field: Field::Read,
-            at,
-        }
-    } else {
-        Moved {
-            field: Field::No(number),
-            at,
-        }
-    }
-}
-
-pub fn step_end(s: &[u8], at: Cursor) -> Moved
+#[tactic(auto, unfolding(crate::specs::Fields::end_field))]
+pub fn step_end(s: &[u8], at: Cursor) -> Result<Cursor, Fault>
     ensures { result ≡ step_end_field s.now at }
 {
-    ended(s, at, Field::TEXT_AFTER)
+    if at.column < s.len() {
+        return Err(Fault::TextAfter);
+    }
+    Ok(at)
 }
 
 // What is left of the line is this word.
 pub fn rest_is(s: &[u8], column: usize, w: &[u8]) -> bool
     ensures { result ≡ is w.now (drop column s.now) }
 {
-    if !scan::follows(s, column, w) {
-        return false;
-    }
-    s.len() <= column + w.len()
+    scan::rest(s, column) == w
 }
 
 // What is left of line 1 is its word.
 fn is_word(s: &[u8], column: usize) -> bool
     ensures { result ≡ word_of_line1 (drop column s.now) }
 {
-    if rest_is(s, column, b" start") {
-        return true;
-    }
-    rest_is(s, column, b" crash")
+    rest_is(s, column, b" start") || rest_is(s, column, b" crash")
 }
 
 // Behind R: the line's end, or its word.
-pub fn bound_end(s: &[u8], at: Cursor) -> Moved
+#[tactic(auto, unfolding(crate::specs::Fields::bound_end_field))]
+pub fn bound_end(s: &[u8], at: Cursor) -> Result<Cursor, Fault>
     ensures { result ≡ bound_end_field s.now at }
 {
-    let from = at.column;
-    if s.len() <= from {
-        return Moved {
-            field: Field::Read,
-            at,
-        };
+    if at.column < s.len() && !is_word(s, at.column) {
+        return Err(Fault::FirstLine);
     }
-    if !is_word(s, from) {
-        return Moved {
-            field: Field::No(Field::LINE_1),
-            at,
-        };
-    }
-    Moved {
-        field: Field::Read,
-        at: Cursor {
-            line: at.line,
-            column: s.len(),
-        },
-    }
-}
-
-// 01's number of an answer, 0 where the field is read.
-pub fn number(f: Field) -> u8
-    ensures { result ≡ number_of f }
-{
-    match f {
-        Field::Read => 0,
-        Field::No(n) => n,
-    }
+    Ok(Cursor {
+        column: at.column + scan::rest(s, at.column).len(),
+        ..at
+    })
 }
 
 // The line as a whole, whose LF is there or not.
-pub fn line(s: &[u8], ended: bool) -> Field
+#[tactic(auto, unfolding(crate::specs::Fields::whole_line))]
+pub fn line(s: &[u8], ended: bool) -> Result<(), Fault>
     ensures { result ≡ whole_line (row s.now ended) }
 {
     if Cursor::COLUMNS < s.len() {
-        return Field::No(Field::LINE_LONG);
+        return Err(Fault::LineLong);
     }
     if !scan::plain(s) {
-        return Field::No(Field::LINE_BYTE);
+        return Err(Fault::LineByte);
     }
-    if ended {
-        Field::Read
-    } else {
-        Field::No(Field::LINE_OPEN)
+    if !ended {
+        return Err(Fault::LineOpen);
     }
+    Ok(())
 }

@@ -9,9 +9,7 @@ use std::io::Print;
 fn main(rt: HostRuntime) {
     // One byte more than a job may have, so that a longer one is seen.
     let mut space = [0u8; Job::TEXT + 1];
-    let n = read_full(&mut rt.stdin(), &mut space);
-    let form = file(&space[..n]);
-    let text = form.text;
-    let length = form.length;
-    let _ = rt.write_all(&text[..length]);
+    // A read that fails ends the job.
+    let n = read_full(&mut rt.stdin(), &mut space).count;
+    let _ = rt.write_all(file(&space[..n]).bytes());
 }

@@ -9,7 +9,6 @@ use lib.Dec.{ltb}
 use lib.IntN.{ℤ, pos}
 use lib.ListN.{length, get_or}
 use Rattle.lists.specs.Rows.{each, tab, num}
-use Rattle.lists.specs.Writing.{write}
 use Rattle.lists.proofs.RowLaws.{map_tab, tab_same, length_tab}
 use Rattle.lists.proofs.TestLaws.{passed, is_within}
 use Rattle.job.specs.Fitness.{item_fits, fit}
@@ -22,7 +21,8 @@ use Rattle.job.specs.declared.Literal.TheVariants.{On, Off}
 use Rattle.job.proofs.FitnessLaws.{fit_lemmas, lemma_is}
 use Rattle.order.specs.Sorting.{sort, from_left}
 use Rattle.scan.specs.Lines.{lines}
-use Rattle.put.specs.Put.{placed, put}
+use Rattle.put.specs.declared.Page.{Page}
+use Rattle.put.specs.Put.{Adds, Puts}
 use Rattle.put.proofs.PutLaws.{put_fits}
 use Rattle.form.specs.Lemmas.{before, remaining, filed}
 use Rattle.form.specs.Form.{kept, lemmas_word, name_of, spelt, spaced, lemma_text, lemmas_of, ended, form}
@@ -176,32 +176,26 @@ module _ (J : Job) where
 
 -- ---- the parts written one behind the other, each in the room that is left
 
-module _ (text : List ℕ) (J : Job) (old : List ℕ) (h : fit J ≡ true) (room : length (form text J) ≤ length old) where
-  abbrev pub Writing : List ℕ → ℕ → List ℕ → Type 0
-  Writing out end left = Going old 0 (form text J) out end left
+module _ (text : List ℕ) (J : Job) (first : Page) (h : fit J ≡ true) (room : first.end + length (form text J) ≤ length first.out.now) where
+  abbrev pub Writing : Page → List ℕ → Type 0
+  Writing page left = Going first (form text J) page left
 
   abbrev rest : List ℕ
   rest = lemmas_line J ++ lemma_lines J
 
-  fits : 0 + length (form text J) ≤ length old
-  fits = omega arith
+  pub kept_room : first.end + length (ended (kept (lines text))) ≤ length first.out.now
+  kept_room =
+      going_room {first = first} {whole = form text J} (ended (kept (lines text))) rest going_begins (form_parts J text h) room
 
-  pub kept_room : length (ended (kept (lines text))) ≤ length old
-  kept_room = omega (
-    arith,
-    going_room {old = old} {whole = form text J} {at = 0} (ended (kept (lines text))) rest going_begins
-        (form_parts J text h) fits,
-  )
+  module _ {kept_page : Page} (p : Puts (length (ended (kept (lines text)))) first kept_page (ended (kept (lines text)))) where
+    kept_written : Writing kept_page rest
+    kept_written = going_next (ended (kept (lines text))) rest going_begins (form_parts J text h) room p
 
-  module _ {out : List ℕ} {end : ℕ} (e : end ≡ length (ended (kept (lines text)))) (w : out ≡ write old 0 (ended (kept (lines text)))) where
-    kept_written : Writing out end rest
-    kept_written = going_next (ended (kept (lines text))) rest going_begins (form_parts J text h) fits (omega arith) w
-
-    module _ {new : List ℕ} {next : ℕ} (p : (next ≡ placed out end (lemmas_line J)) × (new ≡ put out end (lemmas_line J))) where
-      pub word_written : Writing new next (lemma_lines J)
+    module _ {page : Page} (a : Adds kept_page page (lemmas_line J)) where
+      pub word_written : Writing page (lemma_lines J)
       word_written =
-          let room = going_room (lemmas_line J) (lemma_lines J) kept_written refl fits in
-          let word = put_fits p room in going_next (lemmas_line J) (lemma_lines J) kept_written refl fits word.behind word.holds
+          let fits = going_room (lemmas_line J) (lemma_lines J) kept_written refl room in
+          going_next (lemmas_line J) (lemma_lines J) kept_written refl room (put_fits a fits)
 
-      pub lines_room : next + length (lemma_lines J) ≤ length new
-      lines_room = going_room (lemma_lines J) [] word_written (sym (append-nil (lemma_lines J))) fits
+      pub lines_room : page.end + length (lemma_lines J) ≤ length page.out.now
+      lines_room = going_room (lemma_lines J) [] word_written (sym (append-nil (lemma_lines J))) room

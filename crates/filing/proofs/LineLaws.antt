@@ -8,7 +8,8 @@ use lib.Dec.{ltb}
 use lib.ListN.{length}
 use Rattle.lists.specs.Rows.{each, num}
 use Rattle.put.specs.Names.{name_at}
-use Rattle.put.specs.Put.{Put}
+use Rattle.put.specs.declared.Page.{Page}
+use Rattle.put.specs.Put.{Puts}
 use Rattle.put.proofs.PutLaws.{put_none, put_most}
 use Rattle.order.specs.Sorting.{from_left}
 use Rattle.filing.specs.Selection.{nearest}
@@ -18,22 +19,20 @@ use Rattle.filing.specs.Keys.{sign_text, item_text, gap_text, word_text, line_te
 
 -- ---- the parts of a name
 
-pub gap_none : (old : List ℕ) (at i : ℕ) → i ≡ 0 → Put 1 old at (gap_text i) at old
+pub gap_none : (page : Page) (i : ℕ) → i ≡ 0 → Puts 1 page page (gap_text i)
 unfolding gap_text
-gap_none old at i e = rw e (put_most (put_none old at) (omega arith))
+gap_none page i e = rw e (put_most (put_none page) (omega arith))
 
-pub gap_space : {old new : List ℕ} {at next : ℕ} (i : ℕ) → (i ≡ 0 → ⊥) → Put 1 old at (32 ∷ []) next new
-    → Put 1 old at (gap_text i) next new
+pub gap_space : {old new : Page} (i : ℕ) → (i ≡ 0 → ⊥) → Puts 1 old new (32 ∷ []) → Puts 1 old new (gap_text i)
 unfolding gap_text
 gap_space zero e p = absurd (e refl)
 gap_space (suc i) e p = p
 
-pub sign_none : (old : List ℕ) (at k : ℕ) → k % 2 ≡ 0 → Put 1 old at (sign_text k) at old
+pub sign_none : (page : Page) (k : ℕ) → k % 2 ≡ 0 → Puts 1 page page (sign_text k)
 unfolding sign_text
-sign_none old at k e = rw (eq-eqb (k % 2) 0 e) (put_most (put_none old at) (omega arith))
+sign_none page k e = rw (eq-eqb (k % 2) 0 e) (put_most (put_none page) (omega arith))
 
-pub sign_tilde : {old new : List ℕ} {at next : ℕ} (k : ℕ) → (k % 2 ≡ 0 → ⊥) → Put 1 old at (126 ∷ []) next new
-    → Put 1 old at (sign_text k) next new
+pub sign_tilde : {old new : Page} (k : ℕ) → (k % 2 ≡ 0 → ⊥) → Puts 1 old new (126 ∷ []) → Puts 1 old new (sign_text k)
 unfolding sign_text
 sign_tilde k e p = rw (ne_eqb (k % 2) 0 e) p
 
@@ -48,9 +47,9 @@ module _ (labels names : List ℕ) (m x : ℕ) where
 
 -- ---- the names of a line and its LF
 
-pub line_is : {old new : List ℕ} {next most : ℕ} (labels names : List ℕ) (m : ℕ) (ks : List ℕ) (n : ℕ) → length ks ≡ n
-    → Put most old 0 (each n (λ i. word_text labels names m i (num ks i)) ++ (10 ∷ [])) next new
-    → Put most old 0 (line_text labels names m ks) next new
+pub line_is : {old new : Page} {most : ℕ} (labels names : List ℕ) (m : ℕ) (ks : List ℕ) (n : ℕ) → length ks ≡ n
+    → Puts most old new (each n (λ i. word_text labels names m i (num ks i)) ++ (10 ∷ []))
+    → Puts most old new (line_text labels names m ks)
 unfolding line_text
 line_is labels names m ks n e p = rw e p
 

@@ -1,43 +1,52 @@
 -- Laws of a loop that writes a text part by part: what is left, written behind the parts before, gives the whole.
-use mathlib.Core.Path.{◌≡◌, refl, sym, ap, ◌∙◌}
-use mathlib.Core.List.{List, [], ◌++◌}
-use Prim.Native.Nat.{ℕ, ◌+◌, ◌≤◌}
-use native.Mathlib.Omega.{arith}
-use lib.ListN.{length, length-append}
+use Rattle.std.proofs.Common.{◌≡◌, refl, sym, ap, ◌∙◌, List, [], ◌++◌, ℕ, ◌+◌, ◌≤◌, arith, length, length-append}
 use Rattle.lists.specs.Writing.{write}
 use Rattle.lists.proofs.WritingLaws.{length_write, write_none, write_more}
+use Rattle.put.specs.declared.Page.{Page}
+use Rattle.put.specs.Put.{Puts}
 
--- the whole is to stand at place at; so far end is the place behind what is written
-pub record Going (old : List ℕ) (at : ℕ) (whole out : List ℕ) (end : ℕ) (left : List ℕ) : Type 0 where
-  pub place : end + length left ≡ at + length whole
-  pub holds : write out end left ≡ write old at whole
-  pub same : length out ≡ length old
+-- the whole is to stand behind what the first page holds; so far a page holds all but what is left
+pub record Going (first : Page) (whole : List ℕ) (page : Page) (left : List ℕ) : Type 0 where
+  pub same_reference : page.out.ghost_name ≡ first.out.ghost_name
+  pub place : page.end + length left ≡ first.end + length whole
+  pub holds : write page.out.now page.end left ≡ write first.out.now first.end whole
+  pub same : length page.out.now ≡ length first.out.now
 
-module _ {old whole : List ℕ} {at : ℕ} where
-  pub going_begins : Going old at whole old at whole
-  going_begins = record { place = refl; holds = refl; same = refl }
+module _ {first : Page} {whole : List ℕ} where
+  pub going_begins : Going first whole first whole
+  going_begins = record { same_reference = refl; place = refl; holds = refl; same = refl }
 
-  pub going_ends : {out left : List ℕ} {end : ℕ} → Going old at whole out end left → left ≡ [] → (end ≡ at + length whole)
-      × (out ≡ write old at whole)
-  going_ends {out} {left} {end} g e =
-      (omega (arith, g.place, ap length e), write_none out end ∙ ap (write out end) (sym e) ∙ g.holds)
+  pub going_ends : {page : Page} {left : List ℕ} → Going first whole page left → left ≡ [] → Puts (length whole) first page whole
+  going_ends {page} {left} g e = record {
+    same_reference = g.same_reference;
+    short = omega arith;
+    end = omega (arith, g.place, ap length e);
+    out = write_none page.out.now page.end ∙ ap (write page.out.now page.end) (sym e) ∙ g.holds;
+  }
 
   -- the last part is all that is left
-  pub going_last : {out left new : List ℕ} {end next : ℕ} → Going old at whole out end left → next ≡ end + length left → new
-      ≡ write out end left
-      → (next ≡ at + length whole) × (new ≡ write old at whole)
-  going_last g n w = (n ∙ g.place, w ∙ g.holds)
+  pub going_last : {most : ℕ} {page last : Page} {left : List ℕ} → Going first whole page left → Puts most page last left
+      → Puts (length whole) first last whole
+  going_last g p = record {
+    same_reference = p.same_reference ∙ g.same_reference;
+    short = omega arith;
+    end = p.end ∙ g.place;
+    out = p.out ∙ g.holds;
+  }
 
-  module _ {out left : List ℕ} {end : ℕ} (part rest : List ℕ) (g : Going old at whole out end left) (e : left ≡ part ++ rest)
-      (room : at + length whole ≤ length old) where
-    pub going_room : end + length part ≤ length out
+  module _ {page : Page} {left : List ℕ} (part rest : List ℕ) (g : Going first whole page left) (e : left ≡ part ++ rest)
+      (room : first.end + length whole ≤ length first.out.now) where
+    pub going_room : page.end + length part ≤ length page.out.now
     going_room = omega (arith, g.place, g.same, ap length e ∙ length-append part rest)
 
-    pub going_next : {new : List ℕ} {next : ℕ} → next ≡ end + length part → new ≡ write out end part → Going old at whole new next rest
-    going_next n w =
+    pub going_next : {most : ℕ} {next : Page} → Puts most page next part → Going first whole next rest
+    going_next p =
         let l = ap length e ∙ length-append part rest in
         record {
-          place = omega (arith, g.place);
-          holds = rw (w, n) (write_more out end part rest (omega (arith, g.place, g.same))) ∙ ap (write out end) (sym e) ∙ g.holds;
-          same = ap length w ∙ length_write out end part going_room ∙ g.same;
+          same_reference = p.same_reference ∙ g.same_reference;
+          place = omega (arith, g.place, p.end);
+          holds =
+              rw (p.out, p.end) (write_more page.out.now page.end part rest (omega (arith, g.place, g.same)))
+              ∙ ap (write page.out.now page.end) (sym e) ∙ g.holds;
+          same = ap length p.out ∙ length_write page.out.now page.end part going_room ∙ g.same;
         }

@@ -1,5 +1,4 @@
 -- Filing as a call (document 02, S-1); then what its code speaks of.
-pub mod Answers
 pub mod Filing
 pub mod Keys
 pub mod Insertion

@@ -7,32 +7,19 @@ mod rows; // rows.rt: the next lemma in order
 mod lemma_lines; // lemma_lines.rt: the lemma lines in order
 mod kept_lines; // kept_lines.rt: the lines up to `lemmas`
 
-ghost use Rattle.std.specs.Prelude.{◌≡◌, true, ◌≤◌, length};
-ghost use Rattle.lists.specs.Writing.{write};
+ghost use Rattle.std.specs.Prelude.{◌≡◌, true, ◌+◌, ◌≤◌, length};
 ghost use Rattle.job.specs.Fitness.{fit};
 ghost use Rattle.form.specs.Form.{form};
-ghost use Rattle.filing.specs.Answers.{answer_of};
+ghost use Rattle.job.specs.Answers.{answer_of};
 ghost use Rattle.filing.specs.Filing.{filing};
 ghost use Rattle.filing.specs.Row.{Whole};
+ghost use Rattle.put.specs.Put.{Puts};
 
-use job::{Job, Refusal};
+use job::{Fault, Job, Refusal};
 use kept_lines::put_kept;
 use lemma_lines::put_rows;
-use parse::Verdict;
-use put::put_part;
+use put::Page;
 use sorting::file_rows;
-
-// The length of the filing form, or a refusal.
-#[derive(Clone, Copy)]
-pub enum Filed {
-    Length(usize),
-    Refused(Refusal),
-}
-
-// The number of document 02 that filing has besides those of reading.
-impl Filed {
-    pub const BUFFER_SHORT: u8 = 51;
-}
 
 // A lemma's place among the table's items, and how many names it has.
 #[derive(Clone, Copy)]
@@ -42,38 +29,32 @@ struct Row {
 }
 
 // The table's own items are put in order.
-fn put_form(text: &[u8], mut j: Job, out: &mut [u8]) -> usize
-    requires { (fit j ≡ true) × Whole j.items × (length (form text.now j) ≤ length out.old) }
-    ensures { (result ≡ length (form text.now j)) × (out.new ≡ write out.old 0 (form text.now j)) }
+fn put_form(page: &mut Page, text: &[u8], mut j: Job)
+    requires { (fit j ≡ true) × Whole j.items × (page.old.end + length (form text.now j) ≤ length page.old.out.now) }
+    ensures { Puts (length (form text.now j)) page.old page.new (form text.now j) }
 {
     let own = j.program;
     let count = j.lemmas;
     let lengths = j.lengths;
-    let a = put_kept(&mut *out, text);
-    let b = put_part(&mut *out, a, b"lemmas\n");
+    put_kept(&mut *page, text);
+    page.part(b"lemmas\n");
     let filed = file_rows(&mut j.items, lengths, count);
     put_rows(
-        out, b, &j.labels, &j.names, own.steps, &j.items, &filed, count,
-    )
+        page, &j.labels, &j.names, own.steps, &j.items, &filed, count,
+    );
 }
 
-// The filing form of a job text goes to the front of a buffer as long as the text.
-pub fn file(text: &[u8], out: &mut [u8]) -> Filed
+// The filing form of a job text goes to the front of a buffer as long as the text; its length, or a refusal.
+#[tactic(auto, unfolding(crate::specs::Filing::filing))]
+pub fn file(text: &[u8], out: &mut [u8]) -> Result<usize, Refusal>
     ensures { (answer_of result ≡ (filing text.now out.old).answer)
         × (out.new ≡ (filing text.now out.old).buffer) }
 {
-    let r = parse::read(text);
-    let verdict = r.verdict;
-    match verdict {
-        Verdict::Refused(refusal) => Filed::Refused(refusal),
-        Verdict::Accepted => {
-            if out.len() < text.len() {
-                return Filed::Refused(Refusal {
-                    number: Filed::BUFFER_SHORT,
-                    place: 0,
-                });
-            }
-            Filed::Length(put_form(text, r.job, out))
-        }
+    let job = parse::read(text)?;
+    if out.len() < text.len() {
+        return Err(Fault::BufferShort.into());
     }
+    let mut page = Page::new(out);
+    put_form(&mut page, text, job);
+    Ok(page.end)
 }

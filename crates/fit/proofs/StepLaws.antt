@@ -1,29 +1,26 @@
 -- The loop over the steps, told of its variables: those seen so far are those mentioned so far.
-use mathlib.Core.Path.{◌≡◌, refl, sym, ◌∙◌}
-use mathlib.Core.Bool.{Bool, true, false}
-use Prim.Native.Nat.{ℕ, ◌+◌, ◌<◌}
-use native.Mathlib.Numerals.{add-one}
-use lib.Dec.{eqb}
+use Rattle.std.proofs.Common.{◌≡◌, sym, ◌∙◌, ℕ, ◌+◌, ◌<◌, true, false, eqb, max, arith, add-one}
 use Rattle.lists.specs.Rows.{num}
-use Rattle.lists.specs.Tests.{every, all}
-use Rattle.lists.proofs.TestLaws.{all_fails}
+use Rattle.lists.specs.Tests.{every}
+use Rattle.lists.proofs.TestLaws.{all_of, all_fails}
 use Rattle.job.specs.declared.Program.{Program}
 use Rattle.job.specs.Limits.{max_steps}
 use Rattle.job.specs.Fitness.{larger, mentioned, step_fits, steps_fit}
 
+max-larger : (a b : ℕ) → max a b ≡ larger a b
+unfolding larger
+max-larger a b = grind arith
+
 module _ (P : Program) where
-  pub mentioned_none : 0 ≡ mentioned P 0
+  pub mentioned_next : (c seen : ℕ) → seen ≡ mentioned P c → max seen (num P.variable c) ≡ mentioned P (c + 1)
   unfolding mentioned
-  mentioned_none = refl
+  mentioned_next c seen e = max-larger seen (num P.variable c) ∙ rw (add-one c, e)
 
-  pub mentioned_next : (c seen r : ℕ) → seen ≡ mentioned P c → r ≡ larger seen (num P.variable c) → r ≡ mentioned P (c + 1)
-  unfolding mentioned
-  mentioned_next c seen r e h = h ∙ rw (add-one c, e)
-
-  pub steps_stop : (c : ℕ) (b : Bool) → c < max_steps → b ≡ step_fits P c → b ≡ false → false ≡ steps_fit P
+  pub steps_stop : (c : ℕ) → c < max_steps → false ≡ step_fits P c → false ≡ steps_fit P
   unfolding steps_fit every
-  steps_stop c b l e h = rw (all_fails (step_fits P) c max_steps l (sym e ∙ h))
+  steps_stop c l e = rw (all_fails (step_fits P) c max_steps l (sym e))
 
-  pub steps_end : (c seen : ℕ) → c ≡ max_steps → seen ≡ mentioned P c → all c (step_fits P) ≡ true → eqb P.variables seen ≡ steps_fit P
+  pub steps_end : (seen : ℕ) → seen ≡ mentioned P max_steps → ((c : ℕ) → c < max_steps → step_fits P c ≡ true)
+      → eqb P.variables seen ≡ steps_fit P
   unfolding steps_fit every
-  steps_end c seen e f h = rw (← e, h, f)
+  steps_end seen e h = rw (e, all_of (step_fits P) max_steps h)

@@ -1,104 +1,148 @@
-// The steps of a table: each by its kind, those past the last one 0, and as many variables as they mention.
-ghost use Rattle.std.specs.Prelude.{◌≡◌, ◌≤◌, ◌<◌};
-ghost use Rattle.job.specs.Limits.{max_steps};
-ghost use Rattle.job.specs.Fitness.{larger, is_step, other_fits, variable_fits, value_fits, used_step, unused_step, mentioned, step_fits};
+// The steps of a table: each by its kind, those past the last one 0, and as many variables as they mention. Past its end a table has zeros.
+ghost use Rattle.std.specs.Prelude.{◌≡◌};
+ghost use Rattle.lists.specs.Rows.{num};
+ghost use Rattle.job.specs.Fitness.{is_step, other_fits, variable_fits, value_fits, used_step, unused_step, mentioned, step_fits};
 ghost use Rattle.job.specs.Fitness.{steps_fit};
 
-use super::range::in_range;
-use job::{Job, Program};
+use job::{Job, Kind, Program};
+use lists::get_or;
 
-fn max(a: usize, b: usize) -> usize
-    ensures { result ≡ larger a b }
-{
-    if a < b { b } else { a }
+// Step c of a table.
+#[derive(Clone, Copy)]
+struct Step<'a> {
+    program: &'a Program,
+    c: usize,
 }
 
-fn is_step(p: Program, c: usize, l: usize) -> bool
-    requires { (p.steps ≤ max_steps) × (c < max_steps) }
-    ensures { result ≡ is_step p c l }
-{
-    if in_range(1, p.steps, l) {
-        p.process[l - 1] == p.process[c]
-    } else {
-        false
+impl Step<'_> {
+    fn process(self) -> u8
+        ensures { result ≡ num self.entry.program.now.process self.entry.c }
+    {
+        get_or(&self.program.process, self.c, 0)
+    }
+
+    fn kind(self) -> u8
+        ensures { result ≡ num self.entry.program.now.kind self.entry.c }
+    {
+        get_or(&self.program.kind, self.c, 0)
+    }
+
+    fn variable(self) -> u8
+        ensures { result ≡ num self.entry.program.now.variable self.entry.c }
+    {
+        get_or(&self.program.variable, self.c, 0)
+    }
+
+    fn value(self) -> u8
+        ensures { result ≡ num self.entry.program.now.value self.entry.c }
+    {
+        get_or(&self.program.value, self.c, 0)
+    }
+
+    fn to(self) -> u16
+        ensures { result ≡ num self.entry.program.now.to self.entry.c }
+    {
+        get_or(&self.program.to, self.c, 0)
+    }
+
+    fn other(self) -> u16
+        ensures { result ≡ num self.entry.program.now.other self.entry.c }
+    {
+        get_or(&self.program.other, self.c, 0)
+    }
+
+    // Whether l is the number of a step of the same process.
+    #[tactic(auto, unfolding(job::specs::Fitness::is_step, lists::specs::Tests::every, lists::specs::Tests::within))]
+    fn leads_to(self, l: u16) -> bool
+        ensures { result ≡ is_step self.entry.program.now self.entry.c l }
+    {
+        let l = usize::from(l);
+        (1..=self.program.steps).contains(&l)
+            && get_or(&self.program.process, l - 1, 0) == self.process()
+    }
+
+    #[tactic(auto, unfolding(job::specs::Fitness::other_fits))]
+    fn other_fits(self) -> bool
+        ensures { result ≡ other_fits self.entry.program.now self.entry.c }
+    {
+        if self.kind() == Kind::If as u8 {
+            self.leads_to(self.other())
+        } else {
+            self.other() == 0
+        }
+    }
+
+    #[tactic(auto, unfolding(job::specs::Fitness::variable_fits, lists::specs::Tests::every, lists::specs::Tests::within))]
+    fn variable_fits(self, seen: u8) -> bool
+        ensures { result ≡ variable_fits self.entry.program.now seen self.entry.c }
+    {
+        if Kind::Assign as u8 <= self.kind() {
+            (1..=usize::from(seen) + 1).contains(&usize::from(self.variable()))
+        } else {
+            self.variable() == 0
+        }
+    }
+
+    #[tactic(auto, unfolding(job::specs::Fitness::value_fits))]
+    fn value_fits(self) -> bool
+        ensures { result ≡ value_fits self.entry.program.now self.entry.c }
+    {
+        if Kind::Assign as u8 <= self.kind() {
+            self.value() <= 1
+        } else {
+            self.value() == 0
+        }
+    }
+
+    #[tactic(auto, unfolding(job::specs::Fitness::used_step, lists::specs::Tests::every, lists::specs::Tests::within))]
+    fn is_used(self, seen: u8) -> bool
+        ensures { result ≡ used_step self.entry.program.now seen self.entry.c }
+    {
+        (1..=2).contains(&self.process())
+            && (1..=4).contains(&self.kind())
+            && self.leads_to(self.to())
+            && self.other_fits()
+            && self.variable_fits(seen)
+            && self.value_fits()
+    }
+
+    #[tactic(auto, unfolding(job::specs::Fitness::unused_step, lists::specs::Tests::every))]
+    fn is_unused(self) -> bool
+        ensures { result ≡ unused_step self.entry.program.now self.entry.c }
+    {
+        self.process() == 0
+            && self.kind() == 0
+            && self.to() == 0
+            && self.other() == 0
+            && self.variable() == 0
+            && self.value() == 0
+    }
+
+    // seen are the variables that the steps before it mention.
+    #[tactic(auto, unfolding(job::specs::Fitness::step_fits))]
+    fn fits(self, seen: u8) -> bool
+        requires { seen ≡ mentioned self.program.now self.c }
+        ensures { result ≡ step_fits self.entry.program.now self.entry.c }
+    {
+        if self.c < self.program.steps {
+            self.is_used(seen)
+        } else {
+            self.is_unused()
+        }
     }
 }
 
-fn other_fits(p: Program, c: usize) -> bool
-    requires { (p.steps ≤ max_steps) × (c < max_steps) }
-    ensures { result ≡ other_fits p c }
+#[tactic(auto, unfolding(job::specs::Fitness::mentioned))]
+pub(crate) fn steps_fit(program: &Program) -> bool
+    ensures { result ≡ steps_fit program.now }
 {
-    if p.kind[c] == 4 {
-        is_step(p, c, p.other[c] as usize)
-    } else {
-        p.other[c] == 0
-    }
-}
-
-fn variable_fits(p: Program, seen: usize, c: usize) -> bool
-    requires { (seen ≤ max_steps) × (c < max_steps) }
-    ensures { result ≡ variable_fits p seen c }
-{
-    if 3 <= p.kind[c] {
-        in_range(1, seen + 1, p.variable[c] as usize)
-    } else {
-        p.variable[c] == 0
-    }
-}
-
-fn value_fits(p: Program, c: usize) -> bool
-    requires { c < max_steps }
-    ensures { result ≡ value_fits p c }
-{
-    if 3 <= p.kind[c] {
-        p.value[c] <= 1
-    } else {
-        p.value[c] == 0
-    }
-}
-
-fn used_step(p: Program, seen: usize, c: usize) -> bool
-    requires { (p.steps ≤ max_steps) × (seen ≤ max_steps) × (c < max_steps) }
-    ensures { result ≡ used_step p seen c }
-{
-    let process = in_range(1, 2, p.process[c] as usize);
-    let kind = in_range(1, 4, p.kind[c] as usize);
-    let to = is_step(p, c, p.to[c] as usize);
-    process & (kind & (to & (other_fits(p, c) & (variable_fits(p, seen, c) & value_fits(p, c)))))
-}
-
-fn unused_step(p: Program, c: usize) -> bool
-    requires { c < max_steps }
-    ensures { result ≡ unused_step p c }
-{
-    (p.process[c] == 0)
-        & ((p.kind[c] == 0)
-            & ((p.to[c] == 0) & ((p.other[c] == 0) & ((p.variable[c] == 0) & (p.value[c] == 0)))))
-}
-
-fn step_fits(p: Program, seen: usize, c: usize) -> bool
-    requires { (p.steps ≤ max_steps) × (seen ≤ max_steps) × (c < max_steps) × (seen ≡ mentioned p c) }
-    ensures { result ≡ step_fits p c }
-{
-    if c < p.steps {
-        used_step(p, seen, c)
-    } else {
-        unused_step(p, c)
-    }
-}
-
-pub(crate) fn steps_fit(p: Program) -> bool
-    requires { p.steps ≤ max_steps }
-    ensures { result ≡ steps_fit p }
-{
-    let mut seen: usize = 0;
-    let mut c: usize = 0;
-    while c < Job::STEPS {
-        if !step_fits(p, seen, c) {
+    let mut seen = 0;
+    for c in 0..Job::STEPS {
+        let step = Step { program, c };
+        if !step.fits(seen) {
             return false;
         }
-        seen = max(seen, p.variable[c] as usize);
-        c += 1;
+        seen = seen.max(step.variable());
     }
-    p.variables == seen
+    program.variables == usize::from(seen)
 }

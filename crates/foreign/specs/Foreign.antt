@@ -1,9 +1,10 @@
 -- The table without its names, and the answer, as C lays them out.
-use Rattle.std.specs.Prelude.{true, false, List, ℕ, ◌*◌, replicate}
+use Rattle.std.specs.Prelude.{◌≡◌, true, false, List, ℕ, ◌*◌, replicate, Result}
 use Rattle.job.specs.declared.Job.{Job}
 use Rattle.job.specs.declared.Program.{Program}
 use Rattle.job.specs.Limits.{max_steps}
-use Rattle.job.specs.Answers.{Answer, gives, refuses}
+use Rattle.job.specs.declared.refusal.Refusal.{Refusal}
+use Rattle.job.specs.Answers.{Answer, gives, refuses, answer_of}
 use Rattle.reply.specs.Check.{Outcome, accepted, refused}
 use Rattle.foreign.specs.declared.Table.{Table}
 use Rattle.foreign.specs.declared.Answer.{Answer as AnswerInC}
@@ -37,6 +38,10 @@ job_of t = record {
 abbrev pub in_c : Answer (Unit {0}) → AnswerInC
 in_c (gives _) = record { accepted = true; number = 0; place = 0 }
 in_c (refuses number place) = record { accepted = false; number = number; place = place }
+
+-- what C is given of a result
+abbrev pub IsInC : Result (Unit {0}) Refusal → AnswerInC → Type 0
+IsInC result answer = answer ≡ in_c (answer_of result)
 
 -- the checker's answer, and its working buffer
 abbrev pub answer_in : Outcome → Answer (Unit {0})

@@ -3,14 +3,11 @@
 
 ghost use Rattle.std.specs.Prelude.{◌≡◌};
 ghost use Rattle.reply.specs.Check.{checked};
-ghost use Rattle.readoff.specs.Answers.{answer_of};
 ghost use Rattle.readoff.specs.ReadingOff.{reading_off};
 ghost use Rattle.values.specs.ToValues.{giving_values};
 ghost use Rattle.foreign.specs.Foreign.{program_of, job_of, in_c, answer_in, buffer_in};
 
-use job::{Job, Program};
-use readoff::Told;
-use reply::Checked;
+use job::{Job, Program, Refusal};
 
 // A job's table without its names, as C lays it out.
 #[repr(C)]
@@ -80,13 +77,24 @@ fn job_of(t: Table) -> Job
     }
 }
 
-fn flat(accepted: bool, number: u8, place: usize) -> Answer
-    ensures { result ≡ record { accepted = accepted; number = number; place = place } }
-{
-    Answer {
-        accepted,
-        number,
-        place,
+impl From<Result<(), Refusal>> for Answer {
+    ghost use Rattle.foreign.specs.Foreign.{IsInC};
+
+    ghost from_gives = { IsInC };
+
+    fn from(called: Result<(), Refusal>) -> Answer {
+        match called {
+            Ok(()) => Answer {
+                accepted: true,
+                number: 0,
+                place: 0,
+            },
+            Err(refusal) => Answer {
+                accepted: false,
+                number: refusal.fault.number(),
+                place: refusal.place,
+            },
+        }
     }
 }
 
@@ -95,20 +103,7 @@ pub extern "C" fn check_reply(t: Table, reply: &[u8], work: &mut [u8]) -> Answer
     ensures { (result ≡ in_c (answer_in (checked (job_of t) reply.now work.old)))
         × (work.new ≡ buffer_in (checked (job_of t) reply.now work.old)) }
 {
-    let r = reply::check(job_of(t), reply, work);
-    match r {
-        Checked::Accepted => flat(true, 0, 0),
-        Checked::Refused(r) => flat(false, r.number, r.place),
-    }
-}
-
-fn answer_of(told: Told) -> Answer
-    ensures { result ≡ in_c (answer_of told) }
-{
-    match told {
-        Told::Written => flat(true, 0, 0),
-        Told::Refused(r) => flat(false, r.number, r.place),
-    }
+    reply::check(job_of(t), reply, work).into()
 }
 
 #[unsafe(no_mangle)]
@@ -116,7 +111,7 @@ pub extern "C" fn read_off(t: Table, values: &[u8], run: &mut [u8]) -> Answer
     ensures { (result ≡ in_c (reading_off (job_of t) values.now run.old).answer)
         × (run.new ≡ (reading_off (job_of t) values.now run.old).buffer) }
 {
-    answer_of(readoff::read_off(job_of(t), values, run))
+    readoff::read_off(job_of(t), values, run).into()
 }
 
 #[unsafe(no_mangle)]
@@ -124,5 +119,5 @@ pub extern "C" fn run_to_values(t: Table, run: &[u8], values: &mut [u8]) -> Answ
     ensures { (result ≡ in_c (giving_values (job_of t) run.now values.old).answer)
         × (values.new ≡ (giving_values (job_of t) run.now values.old).buffer) }
 {
-    answer_of(values::run_to_values(job_of(t), run, values))
+    values::run_to_values(job_of(t), run, values).into()
 }

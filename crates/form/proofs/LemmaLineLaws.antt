@@ -1,13 +1,14 @@
 -- Lemma lines: exactly the sound ones are accepted, and they add their literals to the table's lemmas and change nothing else.
 use mathlib.Core.Path.{◌≡◌, refl, sym, ap, ◌∙◌, subst}
-use mathlib.Core.Bool.{Bool, true, false}
+use mathlib.Core.Bool.{Bool}
 use mathlib.Core.Logic.{◌⊎◌, inl, inr}
 use mathlib.Core.List.{List, [], ◌∷◌, ◌++◌, map, append_assoc, append-nil}
 use Prim.Native.Nat.{ℕ, zero, suc, ◌+◌, ◌*◌, ◌≤◌, ◌<◌}
 use native.Mathlib.Omega.{arith}
 use native.Mathlib.Decide.{ℕ_discrete}
 use native.Mathlib.Numerals.{add-one}
-use borrow.Author.Tests.{eqb-false, lt-leb, leb-false}
+use borrow.Author.Tests.{ne_eqb, eqb-false, lt-leb, leb-false}
+use Rattle.std.specs.Prelude.{Option, Some, None, Result, Ok, Err}
 use lib.Dec.{eqb, leb}
 use lib.IntN.{ℤ, pos}
 use lib.ListN.{length, get_or, set, length-set}
@@ -17,22 +18,18 @@ use Rattle.lists.proofs.RowLaws.{tab_same}
 use Rattle.order.specs.Sorting.{In}
 use Rattle.job.specs.Limits.{max_lemmas, max_names}
 use Rattle.job.specs.declared.Job.{Job}
+use Rattle.job.specs.declared.refusal.Fault.{Fault}
+use Rattle.job.specs.declared.refusal.Refusal.{Refusal}
 use Rattle.job.specs.Literals.{Clause}
 use Rattle.job.specs.Table.{lemma as lemma_at, item_of as literal}
 use Rattle.scan.specs.Lines.{Row}
 use Rattle.fields.specs.Fields.{whole_line}
-use Rattle.fields.specs.declared.Field.{Field}
-use Rattle.fields.specs.declared.Field.TheVariants.{Read, No}
-use Rattle.items.specs.declared.Named.{Named}
-use Rattle.items.specs.declared.Named.TheVariants.{Item, Unknown}
-use Rattle.parse.specs.Answers.{refuse, accept, then, by, pick}
+use Rattle.parse.specs.Answers.{then}
 use Rattle.parse.specs.Lemmas.{words, bare, negated, item_in, signed, with_item, named, lemma, whole, lemma_line, lemma_lines}
-use Rattle.parse.proofs.LemmaLaws.{OneOf, item_one, lemma_on, lemma_done}
-use Rattle.parse.specs.declared.Verdict.{Verdict}
-use Rattle.parse.specs.declared.Verdict.TheVariants.{Accepted, Refused}
-use Rattle.parse.specs.declared.Reading.{Reading}
+use Rattle.parse.proofs.AnswerLaws.{goes_on}
 use Rattle.form.specs.Form.{lemmas_of}
-use Rattle.form.proofs.SpellingLaws.{item_number, item_of, Known, literal_of}
+use Rattle.form.proofs.ResultLaws.{not_ok, passed, then_told}
+use Rattle.form.proofs.SpellingLaws.{item_of, Known, literal_of}
 
 -- ---- the table after a lemma line
 
@@ -70,99 +67,76 @@ with_lines J (l ∷ ls) = with_lines (with_line J l) ls
 -- ---- which lines are accepted
 
 pub record Sound (J : Job) (l : Row) : Type 0 where
-  pub whole_line : whole_line l ≡ Read
+  pub whole_line : whole_line l ≡ Ok tt
   pub known : (w : List ℕ) → In w (words l.bytes) → Known J w
   pub some : 1 ≤ length (words l.bytes)
   pub few : length (words l.bytes) ≤ max_names
 
-abbrev is_accepted : Verdict → Type 0
-is_accepted Accepted = Unit {0}
-is_accepted (Refused r) = ⊥
-
-abbrev pub Ok : Reading → Type 0
-Ok r = r.verdict ≡ Accepted
-
-pub not_ok : {A : Type 0} (number place : ℕ) → Ok (refuse number place) → A
-not_ok number place e = absurd (subst is_accepted (sym e) tt)
-
-pub then_ok : (r : Reading) (rest : Job → Reading) → Ok (then r rest) → Ok r × (then r rest ≡ rest r.job)
-unfolding by
-then_ok r rest h = go r.verdict r.job h
-  where
-    go : (v : Verdict) (j : Job) → (by v j rest).verdict ≡ Accepted → (v ≡ Accepted) × (by v j rest ≡ rest j)
-    go Accepted j h = (refl, refl)
-    go (Refused q) j h = absurd (subst is_accepted (sym h) tt)
-
-pick_ok : (b : Bool) (number place : ℕ) (r : Reading) → Ok (pick b (refuse number place) r) → (b ≡ false) × Ok r
-pick_ok true number place r h = not_ok number place h
-pick_ok false number place r h = (refl, h)
-
--- a name that is known is an item
-known_item : (x : Named) → (item_number x ≡ 0 → ⊥) → x ≡ Item (item_number x)
-known_item (Item i) z = refl
-known_item Unknown z = absurd (z refl)
+-- a line that is read is whole
+whole_ok : (n : ℕ) (f : Result (Unit {0}) Fault) {r : Result Job Refusal} {K : Job} → whole f n r ≡ Ok K → (f ≡ Ok tt) × (r ≡ Ok K)
+unfolding whole
+whole_ok n (Ok u) h = (refl, h)
+whole_ok n (Err fault) h = not_ok h
 
 module _ (n : ℕ) where
+  lemma_on : (J : Job) (k : ℕ) (w : List ℕ) (ws : List (List ℕ)) → k < max_names → Known J w
+      → lemma J n k (w ∷ ws) ≡ lemma (with_item J k (value J w)) n (k + 1) ws
+  unfolding lemma then named
+  lemma_on J k w ws room (i, e) = rw (lt-leb max_names k room, e)
+
   -- names that are known, and not too many
   lemma_is : (J : Job) (k : ℕ) (ws : List (List ℕ)) → ((w : List ℕ) → In w ws → Known J w) → 1 ≤ k + length ws → k + length ws ≤ max_names
-      → lemma J n k ws ≡ accept (closed_with J k ws)
-  unfolding with_words
+      → lemma J n k ws ≡ Ok (closed_with J k ws)
+  unfolding lemma with_words
   lemma_is J k [] h s l =
-      let z : k ≡ 0 → ⊥ = λ e. omega arith in
       let e : k ≡ k + 0 = omega arith in
-      sym (lemma_done J n k z) ∙ ap (λ c. accept (with_lemma J c J.items)) e
+      rw (ne_eqb k 0 (λ e. omega arith)) (ap (λ c. Ok (with_lemma J c J.items)) e)
   lemma_is J k (w ∷ ws) h s l =
       let at = J.lemmas * max_names in
       let items = set J.items (at + k) (value J w) in
       let count : k + 1 + length ws ≡ k + suc (length ws) = omega arith in
       let place : at + (k + 1) ≡ at + k + 1 = omega arith in
-      lemma_on J n k w ws (item_of J (bare w)) (omega arith) (known_item (item_in J (bare w)) (h w (inl refl)))
+      lemma_on J k w ws (omega arith) (h w (inl refl))
       ∙ lemma_is (with_item J k (value J w)) (k + 1) ws (λ v i. h v (inr i)) (omega arith) (omega arith)
-      ∙ ap (λ c. accept (with_lemma J c (with_words (value J) (at + (k + 1)) ws items))) count
-      ∙ ap (λ p. accept (with_lemma J (k + suc (length ws)) (with_words (value J) p ws items))) place
+      ∙ ap (λ c. Ok (with_lemma J c (with_words (value J) (at + (k + 1)) ws items))) count
+      ∙ ap (λ p. Ok (with_lemma J (k + suc (length ws)) (with_words (value J) p ws items))) place
 
-  named_told : (J : Job) (k w : ℕ) (negative : Bool) (x : Named) → OneOf w x → Ok (named J n k negative x) → item_number x ≡ 0 → ⊥
+  named_told : (J K : Job) (k : ℕ) (negative : Bool) (x : Option ℕ) → named J n k negative x ≡ Ok K → (i : ℕ) × (x ≡ Some i)
   unfolding named
-  named_told J k w negative (Item i) h g z = omega (arith, h.0, z)
-  named_told J k w negative Unknown h g z = not_ok 43 n g
+  named_told J K k negative (Some i) h = (i, refl)
+  named_told J K k negative None h = not_ok h
 
-  lemma_told : (J : Job) (k : ℕ) (ws : List (List ℕ)) → k ≤ max_names → Ok (lemma J n k ws)
+  lemma_told : (J K : Job) (k : ℕ) (ws : List (List ℕ)) → k ≤ max_names → lemma J n k ws ≡ Ok K
       → ((w : List ℕ) → In w ws → Known J w) × (1 ≤ k + length ws) × (k + length ws ≤ max_names)
   unfolding lemma
-  lemma_told J k [] l h =
-      let z : k ≡ 0 → ⊥ = eqb-false k 0 (pick_ok (eqb k 0) 42 n _ h).0 in
+  lemma_told J K k [] l h =
+      let z : k ≡ 0 → ⊥ = eqb-false k 0 (passed (eqb k 0) _ h).0 in
       ((λ w i. absurd i), omega arith, omega arith)
-  lemma_told J k (w ∷ ws) l h =
-      let x = item_in J (bare w) in
-      let (b, g) = pick_ok (leb max_names k) 44 n _ (then_ok _ _ h).0 in
+  lemma_told J K k (w ∷ ws) l h =
+      let (L, a, _) = then_told _ _ K h in
+      let (b, g) = passed (leb max_names k) _ a in
       let room : k < max_names = leb-false max_names k b in
-      let z : Known J w = named_told J k _ (negated w) x (item_one J (bare w)) g in
-      let next = lemma_on J n k w ws (item_number x) room (known_item x z) in
-      let (known, some, few) = lemma_told (with_item J k (value J w)) (k + 1) ws (omega arith)
-      (ap (λ (r : Reading). r.verdict) (sym next) ∙ h) in
+      let z : Known J w = named_told J L k (negated w) (item_in J (bare w)) g in
+      let (known, some, few) =
+      lemma_told (with_item J k (value J w)) K (k + 1) ws (omega arith) (sym (lemma_on J k w ws room z) ∙ h) in
       ((λ v m. either v z known m), omega arith, omega arith)
     where
       either : (v : List ℕ) → Known J w → ((u : List ℕ) → In u ws → Known J u) → (v ≡ w) ⊎ In v ws → Known J v
       either v z f (inl e) = subst (Known J) (sym e) z
       either v z f (inr i) = f v i
 
-  whole_told : (f : Field) (r : Reading) → Ok (whole f n r) → (f ≡ Read) × Ok r
-  unfolding whole
-  whole_told Read r h = (refl, h)
-  whole_told (No number) r h = not_ok number n h
-
-  line_is : (J : Job) (l : Row) → J.lemmas < max_lemmas → Sound J l → lemma_line J l n ≡ accept (with_line J l)
+  line_is : (J : Job) (l : Row) → J.lemmas < max_lemmas → Sound J l → lemma_line J l n ≡ Ok (with_line J l)
   unfolding lemma_line whole
   line_is J l room s =
       rw (s.whole_line, lt-leb max_lemmas J.lemmas room)
       (lemma_is J 0 (words l.bytes) s.known (omega (arith, s.some)) (omega (arith, s.few)))
 
-  line_told : (J : Job) (l : Row) → Ok (lemma_line J l n) → (J.lemmas < max_lemmas) × Sound J l
+  line_told : (J K : Job) (l : Row) → lemma_line J l n ≡ Ok K → (J.lemmas < max_lemmas) × Sound J l
   unfolding lemma_line
-  line_told J l h =
-      let (w, g) = whole_told (whole_line l) _ h in
-      let (b, k) = pick_ok (leb max_lemmas J.lemmas) 41 n _ g in
-      let (known, some, few) = lemma_told J 0 (words l.bytes) (omega arith) k in
+  line_told J K l h =
+      let (w, g) = whole_ok n (whole_line l) h in
+      let (b, k) = passed (leb max_lemmas J.lemmas) _ g in
+      let (known, some, few) = lemma_told J K 0 (words l.bytes) (omega arith) k in
       (leb-false max_lemmas J.lemmas b, record { whole_line = w; known = known; some = omega arith; few = omega arith })
 
 abbrev pub AllSound : Job → List Row → Type 0
@@ -176,24 +150,23 @@ sound_back : (J : Job) (l k : Row) → Sound (with_line J l) k → Sound J k
 sound_back J l k s = record { whole_line = s.whole_line; known = s.known; some = s.some; few = s.few }
 
 -- as many as there is room for are accepted
-pub lines_are : (J : Job) (n : ℕ) (ls : List Row) → J.lemmas + length ls ≤ max_lemmas → AllSound J ls → lemma_lines J n ls
-    ≡ accept (with_lines J ls)
-unfolding lemma_lines with_lines by
+pub lines_are : (J : Job) (n : ℕ) (ls : List Row) → J.lemmas + length ls ≤ max_lemmas → AllSound J ls
+    → lemma_lines J n ls ≡ Ok (with_lines J ls)
+unfolding lemma_lines with_lines
 lines_are J n [] room h = refl
 lines_are J n (l ∷ ls) room h =
-    ap (λ r. then r λ e. lemma_lines e (n + 1) ls) (line_is (n + 1) J l (omega arith) (h l (inl refl)))
+    goes_on _ (λ e. lemma_lines e (n + 1) ls) _ (line_is (n + 1) J l (omega arith) (h l (inl refl)))
     ∙ lines_are (with_line J l) (n + 1) ls (omega arith) (λ k i. sound_on J l k (h k (inr i)))
 
-pub lines_told : (J : Job) (n : ℕ) (ls : List Row) → J.lemmas ≤ max_lemmas → Ok (lemma_lines J n ls)
+pub lines_told : (J K : Job) (n : ℕ) (ls : List Row) → J.lemmas ≤ max_lemmas → lemma_lines J n ls ≡ Ok K
     → (J.lemmas + length ls ≤ max_lemmas) × AllSound J ls
-unfolding lemma_lines by
-lines_told J n [] room h = (omega arith, λ l i. absurd i)
-lines_told J n (l ∷ ls) room h =
-    let (a, q) = then_ok (lemma_line J l (n + 1)) (λ e. lemma_lines e (n + 1) ls) h in
-    let (few, s) = line_told (n + 1) J l a in
-    let next : lemma_lines J n (l ∷ ls) ≡ lemma_lines (with_line J l) (n + 1) ls = ap (λ r. then r λ e. lemma_lines e (n + 1) ls)
-    (line_is (n + 1) J l few s) in
-    let (count, rest) = lines_told (with_line J l) (n + 1) ls (omega arith) (ap (λ (r : Reading). r.verdict) (sym next) ∙ h) in
+unfolding lemma_lines
+lines_told J K n [] room h = (omega arith, λ l i. absurd i)
+lines_told J K n (l ∷ ls) room h =
+    let (L, a, _) = then_told (lemma_line J l (n + 1)) (λ e. lemma_lines e (n + 1) ls) K h in
+    let (few, s) = line_told (n + 1) J L l a in
+    let next = goes_on _ (λ e. lemma_lines e (n + 1) ls) _ (line_is (n + 1) J l few s) in
+    let (count, rest) = lines_told (with_line J l) K (n + 1) ls (omega arith) (sym next ∙ h) in
     (omega arith, λ k i. each k s rest i)
   where
     each : (k : Row) → Sound J l → AllSound (with_line J l) ls → (k ≡ l) ⊎ In k ls → Sound J k

@@ -1,4 +1,5 @@
 -- The laws of the filing form: the filed lemmas, what is written and read, the form read again, and the claims of S-1.
+pub mod ResultLaws
 pub mod LiteralLaws
 pub mod FiledLaws
 pub mod RunLaws

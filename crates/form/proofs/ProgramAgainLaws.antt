@@ -6,6 +6,7 @@ use mathlib.Core.List.{List, [], ◌∷◌, ◌++◌}
 use Prim.Native.Nat.{ℕ, ◌+◌, ◌≤◌}
 use native.Mathlib.Omega.{arith}
 use borrow.Author.Tests.{eqb-true}
+use Rattle.std.specs.Prelude.{Option, Some, None, Result, Ok, Err}
 use lib.Dec.{eqb, leb}
 use lib.ListN.{length, set}
 use lib.Seq.{slice}
@@ -14,32 +15,23 @@ use Rattle.order.specs.Sorting.{In}
 use Rattle.order.proofs.WeightLaws.{weight}
 use Rattle.job.specs.Limits.{max_steps}
 use Rattle.job.specs.Fitness.{has_variable}
+use Rattle.job.specs.declared.refusal.Fault.{Fault}
+use Rattle.job.specs.declared.refusal.Fault.TheVariants.{ManySteps}
+use Rattle.job.specs.declared.refusal.Refusal.{Refusal}
 use Rattle.scan.specs.Bytes.{all_of}
 use Rattle.lists.specs.Tests.{every, within}
 use Rattle.scan.specs.Lines.{Row, row}
 use Rattle.scan.specs.Names.{lookup}
-use Rattle.scan.specs.declared.Found.{Found}
-use Rattle.scan.specs.declared.Found.TheVariants.{At, Nothing}
 use Rattle.fields.specs.Fields.{whole_line}
-use Rattle.fields.specs.declared.Field.{Field}
-use Rattle.fields.specs.declared.Field.TheVariants.{Read}
-use Rattle.fields.specs.declared.Field.TheVariants.{No as NoField}
-use Rattle.lines.specs.StepLine.{step_line}
+use Rattle.lines.specs.StepLine.{code_of, step_line}
 use Rattle.lines.specs.declared.Step.{Step}
-use Rattle.lines.specs.declared.StepLine.{StepLine}
-use Rattle.lines.specs.declared.StepLine.TheVariants.{Line}
-use Rattle.lines.specs.declared.StepLine.TheVariants.{Refused as NoStep}
 use Rattle.program.specs.Draft.{mention_at, mention, enter, add_step}
-use Rattle.program.specs.ProgramLine.{lined, pick, is_lemmas, is_comment, stepped, program_line, whole, line_of}
+use Rattle.program.specs.ProgramLine.{is_lemmas, is_comment, stepped, program_line, whole, line_of}
 use Rattle.program.specs.Program.{reached, follow, program}
 use Rattle.program.specs.declared.Draft.{Draft}
-use Rattle.program.specs.declared.Next.TheVariants.{More, Lemmas, No}
-use Rattle.program.specs.declared.Lined.{Lined}
-use Rattle.program.specs.declared.End.{End}
-use Rattle.program.specs.declared.End.TheVariants.{Lemmas as AtLemmas, Refused}
-use Rattle.program.specs.declared.Outcome.{Outcome}
-use Rattle.program.proofs.ProgramLaws.{program_line_lem}
+use Rattle.program.specs.declared.ProgramPart.{ProgramPart}
 use Rattle.form.specs.Form.{kept, lemmas_word}
+use Rattle.form.proofs.ResultLaws.{not_ok}
 use Rattle.form.proofs.WrittenLaws.{long, whole_told, whole_is}
 use Rattle.form.proofs.LineNumberLaws.{relined, step_steady}
 use Rattle.form.proofs.KeptLaws.{joined, is_lemmas_lem, kept_lemmas, kept_comment, kept_line}
@@ -47,11 +39,11 @@ use Rattle.form.proofs.KeptLaws.{joined, is_lemmas_lem, kept_lemmas, kept_commen
 -- ---- one program line
 
 -- a line that is whole is whole with its LF
-pub whole_ended : (l : Row) → whole_line l ≡ Read → whole_line (row l.bytes true) ≡ Read
+pub whole_ended : (l : Row) → whole_line l ≡ Ok tt → whole_line (row l.bytes true) ≡ Ok tt
 whole_ended l e = let w = whole_told l e in whole_is l.bytes w.short w.bytes
 
 -- the step that a line says
-abbrev step_of : Draft → List ℕ → ℕ → StepLine
+abbrev step_of : Draft → List ℕ → ℕ → Result Step Fault
 step_of d s n = step_line d.labels d.program.steps s (record { line = n; column = 0 })
 
 -- line n is a step line, and there is room for its step
@@ -59,7 +51,7 @@ record Stepping (d : Draft) (l : Row) (n : ℕ) (p : Step) : Type 0 where
   no_lemmas : is_lemmas l.bytes ≡ false
   no_comment : is_comment l.bytes ≡ false
   room : leb max_steps d.program.steps ≡ false
-  says : step_of d l.bytes n ≡ Line p
+  says : step_of d l.bytes n ≡ Ok p
 
 -- bound and word are the same
 abbrev pub Line1 : Draft → Draft → Type 0
@@ -72,13 +64,13 @@ module _ (d : Draft) (s : List ℕ) (p : Step) (n : ℕ) where
   -- the step is added alike to a draft with other lines
   added_relined : (ns : List ℕ) (m : ℕ) → add_step (relined d ns) s p m ≡ relined (add_step d s p n) (set ns d.program.steps m)
   unfolding add_step enter mention_at
-  added_relined ns m = go (has_variable p.kind)
+  added_relined ns m = go (has_variable (code_of p.kind))
     where
-      mentioned : (f : Found)
+      mentioned : (f : Option ℕ)
           → enter (mention_at (relined d ns) variable_of f) s p m ≡ relined (enter (mention_at d variable_of f) s p n)
           (set ns d.program.steps m)
-      mentioned (At i) = refl
-      mentioned Nothing = refl
+      mentioned (Some i) = refl
+      mentioned None = refl
 
       go : (b : Bool) → enter (cond b (mention (relined d ns) variable_of) (relined d ns)) s p m
           ≡ relined (enter (cond b (mention d variable_of) d) s p n) (set ns d.program.steps m)
@@ -88,69 +80,69 @@ module _ (d : Draft) (s : List ℕ) (p : Step) (n : ℕ) where
   -- and leaves what line 1 said
   added_line1 : Line1 (add_step d s p n) d
   unfolding add_step enter mention_at
-  added_line1 = go (has_variable p.kind)
+  added_line1 = go (has_variable (code_of p.kind))
     where
-      mentioned : (f : Found) → Line1 (mention_at d variable_of f) d
-      mentioned (At i) = (refl, refl)
-      mentioned Nothing = (refl, refl)
+      mentioned : (f : Option ℕ) → Line1 (mention_at d variable_of f) d
+      mentioned (Some i) = (refl, refl)
+      mentioned None = (refl, refl)
 
       go : (b : Bool) → Line1 (cond b (mention d variable_of) d) d
       go true = mentioned (lookup d.names d.program.variables variable_of)
       go false = (refl, refl)
 
-module _ (d : Draft) (at n : ℕ) (l : Row) (ls : List Row) (w : whole_line l ≡ Read) where
+module _ (d : Draft) (at n : ℕ) (l : Row) (ls : List Row) (w : whole_line l ≡ Ok tt) where
   abbrev next : ℕ
   next = at + long l.bytes
 
-  behind : at + length l.bytes + 1 ≡ at + long l.bytes
-  behind = omega arith
+  -- what is read of the line, and of those behind it
+  program_line_lem : (r : Result (Option Draft) Fault) → program_line d l.bytes (n + 1) ≡ r
+      → program d at n (l ∷ ls) ≡ follow r d (n + 1) next λ e. program e next (n + 1) ls
+  unfolding program whole
+  program_line_lem r h =
+      let behind : at + length l.bytes + 1 ≡ next = omega arith in
+      rw (w, h) (ap (λ k. follow r d (n + 1) k λ e. program e k (n + 1) ls) behind)
 
-  program_lemmas : is_lemmas l.bytes ≡ true → program d at n (l ∷ ls) ≡ reached (n + 1) next d
-  unfolding follow whole program_line pick
-  program_lemmas a = program_line_lem d at n l ls (lined Lemmas d) next (rw (w, a)) behind
+  program_lemmas : is_lemmas l.bytes ≡ true → program d at n (l ∷ ls) ≡ Ok (reached (n + 1) next d)
+  unfolding follow program_line
+  program_lemmas a = program_line_lem (Ok None) (rw a refl)
 
   program_comment : is_lemmas l.bytes ≡ false → is_comment l.bytes ≡ true → program d at n (l ∷ ls) ≡ program d next (n + 1) ls
-  unfolding follow whole program_line pick
-  program_comment a b = program_line_lem d at n l ls (lined More d) next (rw (w, a, b)) behind
+  unfolding follow program_line
+  program_comment a b = program_line_lem (Ok (Some d)) (rw (a, b) refl)
 
   program_step : (p : Step) → Stepping d l (n + 1) p → program d at n (l ∷ ls) ≡ program (add_step d l.bytes p (n + 1)) next (n + 1) ls
-  unfolding follow whole program_line pick stepped
+  unfolding follow program_line stepped
   program_step p s =
-      program_line_lem d at n l ls (lined More (add_step d l.bytes p (n + 1))) next (rw (w, s.no_lemmas, s.no_comment, s.room, s.says))
-      behind
+      program_line_lem (Ok (Some (add_step d l.bytes p (n + 1)))) (rw (s.no_lemmas, s.no_comment, s.room, s.says) refl)
 
 -- ---- which lines do not end the reading
-
-abbrev pub Ends : End → Type 0
-Ends (AtLemmas n at) = Unit {0}
-Ends (Refused number place) = ⊥
 
 data Way (d : Draft) (l : Row) (n : ℕ) : Type 0 where
   lemmas : is_lemmas l.bytes ≡ true → Way d l n
   comment : is_lemmas l.bytes ≡ false → is_comment l.bytes ≡ true → Way d l n
   step : (p : Step) → Stepping d l n p → Way d l n
 
-module _ (d : Draft) (l : Row) (n at : ℕ) (more : Draft → Outcome) where
-  way_told : Ends (follow (line_of d l n).next (line_of d l n).draft n at more).end → (whole_line l ≡ Read) × Way d l n
-  unfolding whole program_line pick stepped follow
+module _ (d : Draft) (l : Row) (n at : ℕ) (more : Draft → Result ProgramPart Refusal) (to : ProgramPart) where
+  way_told : follow (line_of d l n) d n at more ≡ Ok to → (whole_line l ≡ Ok tt) × Way d l n
+  unfolding whole program_line stepped follow
   way_told h =
       go (whole_line l) refl (is_lemmas s) refl (is_comment s) refl (leb max_steps d.program.steps) refl (step_of d s n) refl h
     where
       s : List ℕ
       s = l.bytes
 
-      line_by : Field → Bool → Bool → Bool → StepLine → Lined
-      line_by f a b c x = whole f d (pick a (lined Lemmas d) (pick b (lined More d) (pick c (lined (No 7) d) (stepped d s n x))))
+      line_by : Bool → Bool → Bool → Result Step Fault → Result (Option Draft) Fault
+      line_by a b c x = cond a (Ok None) (cond b (Ok (Some d)) (cond c (Err ManySteps) (stepped d s n x)))
 
-      go : (f : Field) → whole_line l ≡ f → (a : Bool) → is_lemmas s ≡ a → (b : Bool) → is_comment s ≡ b
-          → (c : Bool) → leb max_steps d.program.steps ≡ c → (x : StepLine) → step_of d s n ≡ x
-          → Ends (follow (line_by f a b c x).next (line_by f a b c x).draft n at more).end → (whole_line l ≡ Read) × Way d l n
-      go (NoField number) w a p b q c r x e h = absurd h
-      go Read w true p b q c r x e h = (w, lemmas p)
-      go Read w false p true q c r x e h = (w, comment p q)
-      go Read w false p false q true r x e h = absurd h
-      go Read w false p false q false r (Line y) e h = (w, step y (record { no_lemmas = p; no_comment = q; room = r; says = e }))
-      go Read w false p false q false r (NoStep number) e h = absurd h
+      go : (f : Result (Unit {0}) Fault) → whole_line l ≡ f → (a : Bool) → is_lemmas s ≡ a → (b : Bool) → is_comment s ≡ b
+          → (c : Bool) → leb max_steps d.program.steps ≡ c → (x : Result Step Fault) → step_of d s n ≡ x
+          → follow (whole f (line_by a b c x)) d n at more ≡ Ok to → (whole_line l ≡ Ok tt) × Way d l n
+      go (Err fault) w a p b q c r x e h = not_ok h
+      go (Ok u) w true p b q c r x e h = (w, lemmas p)
+      go (Ok u) w false p true q c r x e h = (w, comment p q)
+      go (Ok u) w false p false q true r x e h = not_ok h
+      go (Ok u) w false p false q false r (Ok y) e h = (w, step y (record { no_lemmas = p; no_comment = q; room = r; says = e }))
+      go (Ok u) w false p false q false r (Err fault) e h = not_ok h
 
 -- ---- all lines
 
@@ -161,19 +153,19 @@ rows_long = weight (λ (l : Row). long l.bytes)
 -- from place at, behind line m, kept lines and `lemmas` lead d to the draft start, whatever lines its steps stand in
 abbrev pub Leads : Draft → ℕ → ℕ → List (List ℕ) → List Row → Draft → Type 0
 Leads d at m ks tail start =
-    (k : ℕ) × (ms : List ℕ) × (program d at m (joined ks tail) ≡ reached k (at + weight long ks + long lemmas_word) (relined start ms))
+    (k : ℕ) × (ms : List ℕ) × (program d at m (joined ks tail) ≡ Ok (reached k (at + weight long ks + long lemmas_word) (relined start ms)))
 
 pub record Reads (d : Draft) (n : ℕ) (ls : List Row) : Type 0 where
   -- the lines up to `lemmas`, and the lemma lines
   pub front : List Row
   pub rest : List Row
   pub parts : ls ≡ front ++ rest
-  pub wholes : (l : Row) → In l front → whole_line l ≡ Read
+  pub wholes : (l : Row) → In l front → whole_line l ≡ Ok tt
   -- the draft at `lemmas`
   pub start : Draft
   pub line : ℕ
   pub line1 : Line1 start d
-  pub reads : (at : ℕ) → program d at n ls ≡ reached line (at + rows_long front) start
+  pub reads : (at : ℕ) → program d at n ls ≡ Ok (reached line (at + rows_long front) start)
   pub shorter : weight long (kept ls) + long lemmas_word ≤ rows_long front
   -- the kept lines lead to the same draft, under any line numbers and before any lemma lines
   pub again : (ns : List ℕ) (at m : ℕ) (tail : List Row) → Leads (relined d ns) at m (kept ls) tail start
@@ -182,13 +174,13 @@ lemmas_length : (s : List ℕ) → is_lemmas s ≡ true → length s ≡ 6
 unfolding is_lemmas
 lemmas_length s e = eqb-true (length s) 6 (and_left (eqb (length s) 6) _ e)
 
-pub lemmas_whole : whole_line (row lemmas_word true) ≡ Read
+pub lemmas_whole : whole_line (row lemmas_word true) ≡ Ok tt
 unfolding whole_line all_of within every
 lemmas_whole = refl
 
 -- one line more in front
-module _ (d : Draft) (n : ℕ) (l : Row) (ls : List Row) (w : whole_line l ≡ Read) where
-  either : (rs : List Row) → ((k : Row) → In k rs → whole_line k ≡ Read) → (k : Row) → (k ≡ l) ⊎ In k rs → whole_line k ≡ Read
+module _ (d : Draft) (n : ℕ) (l : Row) (ls : List Row) (w : whole_line l ≡ Ok tt) where
+  either : (rs : List Row) → ((k : Row) → In k rs → whole_line k ≡ Ok tt) → (k : Row) → (k ≡ l) ⊎ In k rs → whole_line k ≡ Ok tt
   either rs f k (inl e) = ap whole_line e ∙ w
   either rs f k (inr i) = f k i
 
@@ -207,24 +199,24 @@ module _ (d : Draft) (n : ℕ) (l : Row) (ls : List Row) (w : whole_line l ≡ R
     again = λ ns at m tail. subst (λ ks. Leads (relined d ns) at m ks tail d) (sym (kept_lemmas l ls a)) (m + 1, ns, ended ns at m tail);
   }
     where
-      here : (at : ℕ) → program d at n (l ∷ ls) ≡ reached (n + 1) (at + (long l.bytes + 0)) d
+      here : (at : ℕ) → program d at n (l ∷ ls) ≡ Ok (reached (n + 1) (at + (long l.bytes + 0)) d)
       here at =
           let place : at + long l.bytes ≡ at + (long l.bytes + 0) = omega arith in
-          program_lemmas d at n l ls w a ∙ ap (λ k. reached (n + 1) k d) place
+          program_lemmas d at n l ls w a ∙ ap (λ k. Ok (reached (n + 1) k d)) place
 
       ended : (ns : List ℕ) (at m : ℕ) (tail : List Row)
-          → program (relined d ns) at m (joined [] tail) ≡ reached (m + 1) (at + 0 + long lemmas_word) (relined d ns)
+          → program (relined d ns) at m (joined [] tail) ≡ Ok (reached (m + 1) (at + 0 + long lemmas_word) (relined d ns))
       ended ns at m tail =
           let place : at + long lemmas_word ≡ at + 0 + long lemmas_word = omega arith in
           program_lemmas (relined d ns) at m (row lemmas_word true) tail lemmas_whole is_lemmas_lem
-          ∙ ap (λ k. reached (m + 1) k (relined d ns)) place
+          ∙ ap (λ k. Ok (reached (m + 1) k (relined d ns))) place
 
   -- the lines behind it are read
   onward : (e : Draft) (r : Reads e (n + 1) ls) → ((at : ℕ) → program d at n (l ∷ ls) ≡ program e (at + long l.bytes) (n + 1) ls)
-      → (at : ℕ) → program d at n (l ∷ ls) ≡ reached r.line (at + (long l.bytes + rows_long r.front)) r.start
+      → (at : ℕ) → program d at n (l ∷ ls) ≡ Ok (reached r.line (at + (long l.bytes + rows_long r.front)) r.start)
   onward e r f at =
       let place : at + long l.bytes + rows_long r.front ≡ at + (long l.bytes + rows_long r.front) = omega arith in
-      f at ∙ r.reads (at + long l.bytes) ∙ ap (λ k. reached r.line k r.start) place
+      f at ∙ r.reads (at + long l.bytes) ∙ ap (λ k. Ok (reached r.line k r.start)) place
 
   reads_comment : is_lemmas l.bytes ≡ false → is_comment l.bytes ≡ true → Reads d (n + 1) ls → Reads d n (l ∷ ls)
   unfolding weight
@@ -267,8 +259,7 @@ module _ (d : Draft) (n : ℕ) (l : Row) (ls : List Row) (w : whole_line l ≡ R
         no_lemmas = s.no_lemmas;
         no_comment = s.no_comment;
         room = s.room;
-        says = step_steady l.bytes d.labels d.program.steps (record { line = m; column = 0 }) (record { line = n + 1; column = 0 }) refl
-            ∙ s.says;
+        says = step_steady l.bytes m d.labels d.program.steps (record { line = n + 1; column = 0 }) ∙ s.says;
       }
 
       again : (ns : List ℕ) (at m : ℕ) (tail : List Row)
@@ -283,23 +274,20 @@ module _ (d : Draft) (n : ℕ) (l : Row) (ls : List Row) (w : whole_line l ≡ R
             program_step (relined d ns) at m (row l.bytes true) (joined (kept ls) tail) (whole_ended l w) p (same ns (m + 1))
                 ∙ ap (λ e. program e there (m + 1) (joined (kept ls) tail)) (added_relined d l.bytes p (n + 1) ns (m + 1))
                 ∙ q
-                ∙ ap (λ j. reached k j (relined r.start ms)) place,
+                ∙ ap (λ j. Ok (reached k j (relined r.start ms))) place,
           )
 
 -- a program that comes to `lemmas`
-pub reads_told : (d : Draft) (at n : ℕ) (ls : List Row) → Ends (program d at n ls).end → Reads d n ls
+pub reads_told : (d : Draft) (at n : ℕ) (ls : List Row) (to : ProgramPart) → program d at n ls ≡ Ok to → Reads d n ls
 unfolding program
-reads_told d at n [] h = absurd h
-reads_told d at n (l ∷ ls) h =
+reads_told d at n [] to h = not_ok h
+reads_told d at n (l ∷ ls) to h =
     let next = at + length l.bytes + 1 in
-    let (w, way) = way_told d l (n + 1) next (λ e. program e next (n + 1) ls) h in
-    go w way (λ e g. reads_told e (at + long l.bytes) (n + 1) ls g)
+    let (w, way) = way_told d l (n + 1) next (λ e. program e next (n + 1) ls) to h in
+    go w way (λ e g. reads_told e (at + long l.bytes) (n + 1) ls to g)
   where
-    moved : {o : Outcome} → program d at n (l ∷ ls) ≡ o → Ends o.end
-    moved e = subst (λ (o : Outcome). Ends o.end) e h
-
-    go : whole_line l ≡ Read → Way d l (n + 1)
-        → ((e : Draft) → Ends (program e (at + long l.bytes) (n + 1) ls).end → Reads e (n + 1) ls) → Reads d n (l ∷ ls)
+    go : whole_line l ≡ Ok tt → Way d l (n + 1)
+        → ((e : Draft) → program e (at + long l.bytes) (n + 1) ls ≡ Ok to → Reads e (n + 1) ls) → Reads d n (l ∷ ls)
     go w (lemmas a) f = reads_lemmas d n l ls w a
-    go w (comment a b) f = reads_comment d n l ls w a b (f d (moved (program_comment d at n l ls w a b)))
-    go w (step p s) f = reads_step d n l ls w p s (f (add_step d l.bytes p (n + 1)) (moved (program_step d at n l ls w p s)))
+    go w (comment a b) f = reads_comment d n l ls w a b (f d (sym (program_comment d at n l ls w a b) ∙ h))
+    go w (step p s) f = reads_step d n l ls w p s (f (add_step d l.bytes p (n + 1)) (sym (program_step d at n l ls w p s) ∙ h))

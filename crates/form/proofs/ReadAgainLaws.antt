@@ -5,6 +5,8 @@ use mathlib.Core.Logic.{◌⊎◌, inl, inr}
 use mathlib.Core.List.{List, [], ◌∷◌, ◌++◌, map, map-append, append_assoc}
 use Prim.Native.Nat.{ℕ, ◌+◌, ◌*◌, ◌≤◌}
 use native.Mathlib.Omega.{arith}
+use Rattle.std.specs.Prelude.{Ok}
+use Rattle.std.specs.Result.{is_ok}
 use lib.IntN.{ℤ, pos}
 use lib.ListN.{length, length-replicate}
 use Rattle.lists.specs.Rows.{each, tab}
@@ -22,14 +24,12 @@ use Rattle.job.specs.Literals.{Clause}
 use Rattle.job.specs.Table.{lemma}
 use Rattle.scan.specs.Lines.{Row, row, lines}
 use Rattle.fields.specs.Fields.{whole_line}
-use Rattle.fields.specs.declared.Field.TheVariants.{Read}
-use Rattle.program.specs.Draft.{blank}
 use Rattle.program.specs.Program.{reached, program}
 use Rattle.program.specs.declared.Draft.{Draft}
-use Rattle.parse.specs.Answers.{without_lemmas, accept, then, by}
+use Rattle.parse.specs.Answers.{table_of, without_lemmas}
 use Rattle.parse.specs.Lemmas.{lemma_lines}
 use Rattle.parse.specs.Reading.{reading}
-use Rattle.parse.specs.declared.Reading.{Reading}
+use Rattle.parse.proofs.AnswerLaws.{goes_on}
 use Rattle.form.specs.Lemmas.{filed}
 use Rattle.form.specs.Form.{kept, lemmas_word, name_of, spelt, spaced, lemma_text, lemmas_of, ended, form}
 use Rattle.form.specs.OneForm.{IsJob, job_of, form_of}
@@ -40,7 +40,7 @@ use Rattle.form.proofs.KeptLaws.{joined, kept_line, kept_again, kept_in}
 use Rattle.form.proofs.ProgramAgainLaws.{lemmas_whole, whole_ended, rows_long, Leads}
 use Rattle.form.proofs.Line1Laws.{line1_kept}
 use Rattle.form.proofs.FiledLineLaws.{plain_bytes, no_lf, filed_lines, filed_free, filed_sound, filed_read, filed_fewer, filed_shorter}
-use Rattle.form.proofs.AcceptedLaws.{reading_is, Told, no_lemmas}
+use Rattle.form.proofs.AcceptedLaws.{opening, reading_is, Told, no_lemmas}
 
 -- tables with the same names
 pub record Named (J K : Job) : Type 0 where
@@ -69,7 +69,7 @@ lemmas_free : Free 10 lemmas_word
 lemmas_free b i = no_lf b (plain_bytes lemmas_word (whole_told (row lemmas_word true) lemmas_whole).bytes b i)
 
 -- lines that are whole have their LF
-rows_long_lem : (ls : List Row) → ((l : Row) → In l ls → whole_line l ≡ Read) → weight row_length ls ≡ rows_long ls
+rows_long_lem : (ls : List Row) → ((l : Row) → In l ls → whole_line l ≡ Ok tt) → weight row_length ls ≡ rows_long ls
 unfolding weight
 rows_long_lem [] h = refl
 rows_long_lem (l ∷ ls) h =
@@ -82,7 +82,7 @@ module _ (text : List ℕ) (T : Told text) where
   draft = T.reads.start
 
   abbrev base : Job
-  base = at_start draft
+  base = at_start draft T.passes
 
   abbrev rest : List Row
   rest = T.reads.rest
@@ -98,7 +98,7 @@ module _ (text : List ℕ) (T : Told text) where
   formed = T.first.bytes ∷ (behind ++ (lemmas_word ∷ written))
 
   pub table_is : job_of text ≡ with_lines base rest
-  table_is = ap (λ (r : Reading). r.job) T.table
+  table_is = ap table_of T.table
 
   sized : Sized base
   unfolding without_lemmas
@@ -110,15 +110,15 @@ module _ (text : List ℕ) (T : Told text) where
 
   none : lemmas_of base ≡ []
   unfolding each
-  none = ap (λ n. tab n (lemma base)) (no_lemmas draft)
+  none = ap (λ n. tab n (lemma base)) (no_lemmas draft T.passes)
 
   lemmas_are : (ls : List Row) → length ls ≤ max_lemmas → AllSound base ls → lemmas_of (with_lines base ls) ≡ map (literals base) ls
   lemmas_are ls few sound =
-      lines_add base ls sized (omega (arith, no_lemmas draft)) sound ∙ ap (λ x. x ++ map (literals base) ls) none
+      lines_add base ls sized (omega (arith, no_lemmas draft T.passes)) sound ∙ ap (λ x. x ++ map (literals base) ls) none
 
   pub kept_lines : kept (lines text) ≡ T.first.bytes ∷ behind
   kept_lines =
-      let (a, b) = line1_kept T.first.bytes T.bound T.word T.line1_is in
+      let (a, b) = line1_kept T.first.bytes T.says T.line1_is in
       ap kept T.lines_are ∙ kept_line T.first T.others a b
 
   lemma_lines_lem : map (lemma_text (job_of text)) (filed (lemmas_of (job_of text))) ≡ written
@@ -169,11 +169,11 @@ module _ (text : List ℕ) (T : Told text) where
       ∙ rows_long_lem (T.first ∷ (T.reads.front ++ rest)) wholes
       ∙ ap (λ n. long T.first.bytes + n) (weight_append (λ (l : Row). long l.bytes) T.reads.front rest)
     where
-      wholes : (l : Row) → (l ≡ T.first) ⊎ In l (T.reads.front ++ rest) → whole_line l ≡ Read
+      wholes : (l : Row) → (l ≡ T.first) ⊎ In l (T.reads.front ++ rest) → whole_line l ≡ Ok tt
       wholes l (inl e) = ap whole_line e ∙ T.whole_first
       wholes l (inr i) = go (in_append l T.reads.front rest i)
         where
-          go : In l T.reads.front ⊎ In l rest → whole_line l ≡ Read
+          go : In l T.reads.front ⊎ In l rest → whole_line l ≡ Ok tt
           go (inl j) = T.reads.wholes l j
           go (inr j) = (T.sound l j).whole_line
 
@@ -195,39 +195,38 @@ module _ (text : List ℕ) (T : Told text) where
   form_size : within 1 max_text (length (form_of text)) ≡ true
   form_size = within_is 1 max_text (length (form_of text)) (omega (arith, form_long)) (omega (arith, form_shorter, T.size))
 
-  form_reading : Leads (blank T.bound T.word) (long T.first.bytes) 1 behind (as_rows written) draft
-      → reading (form_of text) ≡ accept (with_lines base (as_rows written))
-  unfolding by
+  form_reading : Leads (opening T.says) (long T.first.bytes) 1 behind (as_rows written) draft
+      → reading (form_of text) ≡ Ok (with_lines base (as_rows written))
   form_reading (k, ms, q) =
       let d = relined draft ms in
       let n = long T.first.bytes in
       let parts : joined behind (as_rows written) ≡ up_to ++ as_rows written =
       sym (append_assoc (as_rows behind) (row lemmas_word true ∷ []) (as_rows written)) in
       let place : n + weight long behind + long lemmas_word ≡ n + rows_long up_to = omega (arith, up_to_long) in
-      let goes : program (blank T.bound T.word) n 1 (up_to ++ as_rows written) ≡ reached k (n + rows_long up_to) d =
-      ap (program (blank T.bound T.word) n 1) (sym parts) ∙ q ∙ ap (λ p. reached k p d) place in
+      let goes : program (opening T.says) n 1 (up_to ++ as_rows written) ≡ Ok (reached k (n + rows_long up_to) d) =
+      ap (program (opening T.says) n 1) (sym parts) ∙ q ∙ ap (λ p. Ok (reached k p d)) place in
       let room : base.lemmas + length (as_rows written) ≤ max_lemmas =
-      omega (arith, no_lemmas draft, filed_fewer base rest T.sound, T.few) in
-      reading_is (form_of text) (row T.first.bytes true) up_to (as_rows written) T.bound T.word k d form_size
+      omega (arith, no_lemmas draft T.passes, filed_fewer base rest T.sound, T.few) in
+      reading_is (form_of text) (row T.first.bytes true) up_to (as_rows written) T.says k d form_size
       (form_lines_lem ∙ ap (λ x. row T.first.bytes true ∷ x) parts) (whole_ended T.first T.whole_first) T.line1_is goes
-      ∙ ap (λ r. then r λ j. lemma_lines j k (as_rows written)) (passes_are d k (passes_relined draft ms T.passes))
+      ∙ goes_on _ _ _ (passes_are d k (passes_relined draft ms T.passes))
       ∙ ap (λ j. lemma_lines j k (as_rows written)) (start_relined draft ms T.passes)
       ∙ lines_are base k (as_rows written) room (filed_sound base rest T.sound)
 
-  form_read : reading (form_of text) ≡ accept (with_lines base (as_rows written))
-  form_read = form_reading (T.reads.again (blank T.bound T.word).line (long T.first.bytes) 1 (as_rows written))
+  form_read : reading (form_of text) ≡ Ok (with_lines base (as_rows written))
+  form_read = form_reading (T.reads.again (opening T.says).line (long T.first.bytes) 1 (as_rows written))
 
   -- ---- what its table is
 
   form_table : job_of (form_of text) ≡ with_lines base (as_rows written)
-  form_table = ap (λ (r : Reading). r.job) form_read
+  form_table = ap table_of form_read
 
   pub form_accepted : IsJob (form_of text)
-  form_accepted = ap (λ (r : Reading). r.verdict) form_read
+  form_accepted = ap is_ok form_read
 
   pub form_kept : kept (lines (form_of text)) ≡ kept (lines text)
   form_kept =
-      let (a, b) = line1_kept T.first.bytes T.bound T.word T.line1_is in
+      let (a, b) = line1_kept T.first.bytes T.says T.line1_is in
       ap kept form_lines_lem
       ∙ kept_line (row T.first.bytes true) (joined behind (as_rows written)) a b
       ∙ ap (λ x. T.first.bytes ∷ x) (kept_again T.others (as_rows written))

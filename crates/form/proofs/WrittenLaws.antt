@@ -7,21 +7,21 @@ use Prim.Native.Nat.{ℕ, ◌+◌, ◌-◌, ◌≤◌, ◌<◌}
 use native.Mathlib.Omega.{arith}
 use native.Mathlib.Decide.{dec_lt}
 use borrow.Author.Tests.{eq-eqb, ne_eqb, eqb-false, le-ltb, ltb-false}
+use Rattle.std.specs.Prelude.{Ok}
 use lib.Dec.{eqb, ltb}
-use lib.ListN.{length, drop, take, length-append}
+use lib.ListN.{length, drop, take, length-append, length-take, length-drop}
 use Rattle.lists.specs.Pieces.{Pieces, last, piece, onto, cut}
 use Rattle.order.specs.Sorting.{In}
 use Rattle.order.proofs.MemberLaws.{in_append}
 use Rattle.order.proofs.WeightLaws.{weight}
 use Rattle.scan.specs.Bytes.{word_at, plain}
 use Rattle.scan.specs.Lines.{Row, row, rows, lines}
+use Rattle.scan.proofs.WordLaws.{word_fits}
 use Rattle.scan.proofs.LineLaws.{lines_at, lines_out}
-use Rattle.fields.specs.Fields.{max_columns, pick_answer, whole_line}
-use Rattle.fields.specs.declared.Field.TheVariants.{Read, No}
-use Rattle.fields.proofs.CursorLaws.{not_read}
-use Rattle.program.proofs.ProgramLaws.{line_ends}
+use Rattle.fields.specs.Fields.{max_columns, whole_line}
 use Rattle.parse.specs.Lemmas.{word, filled, words}
 use Rattle.form.specs.Form.{spaced, ended}
+use Rattle.form.proofs.ResultLaws.{passed, taken}
 
 -- no byte of w is k
 abbrev pub Free : ℕ → List ℕ → Type 0
@@ -245,7 +245,9 @@ lines_next text at l ls e = go (dec_lt at (length text)) e
         let first = lines_at text at end h refl in
         let here : l ≡ row (take (end - at) (drop at text)) (ltb end (length text)) = cc in
         let behind : lines (drop (end + 1) text) ≡ ls = cc in
-        let next : at + long l.bytes ≡ end + 1 = omega (arith, line_ends text at end h refl, ap (λ (r : Row). long r.bytes) here) in
+        let ends = length-take (end - at) (drop at text) in
+        let next : at + long l.bytes ≡ end + 1 =
+        omega (arith, ends, word_fits 10 text at end refl, length-drop at text, ap (λ (r : Row). long r.bytes) here) in
         ap (λ k. lines (drop k text)) next ∙ behind
     go (no h) e =
         let none : [] ≡ l ∷ ls = sym (lines_out text at (omega arith)) ∙ e in
@@ -259,17 +261,13 @@ pub record Whole (l : Row) : Type 0 where
   pub bytes : plain l.bytes ≡ true
   pub ends : l.ended ≡ true
 
-pub whole_told : (l : Row) → whole_line l ≡ Read → Whole l
+pub whole_told : (l : Row) → whole_line l ≡ Ok tt → Whole l
 unfolding whole_line
-whole_told l e = go (ltb max_columns (length l.bytes)) refl (plain l.bytes) refl l.ended refl e
-  where
-    go : (a : Bool) → ltb max_columns (length l.bytes) ≡ a → (b : Bool) → plain l.bytes ≡ b → (c : Bool) → l.ended ≡ c
-        → pick_answer a (No 2) (pick_answer b (pick_answer c Read (No 4)) (No 3)) ≡ Read → Whole l
-    go true p b q c r e = not_read 2 e
-    go false p false q c r e = not_read 3 e
-    go false p true q false r e = not_read 4 e
-    go false p true q true r e = record { short = ltb-false max_columns (length l.bytes) p; bytes = q; ends = r }
+whole_told l e =
+    let (short, f) = passed (ltb max_columns (length l.bytes)) _ e in
+    let (bytes, g) = taken (plain l.bytes) _ f in
+    record { short = ltb-false max_columns (length l.bytes) short; bytes = bytes; ends = (taken l.ended _ g).0 }
 
-pub whole_is : (s : List ℕ) → length s ≤ max_columns → plain s ≡ true → whole_line (row s true) ≡ Read
+pub whole_is : (s : List ℕ) → length s ≤ max_columns → plain s ≡ true → whole_line (row s true) ≡ Ok tt
 unfolding whole_line
 whole_is s h p = rw (le-ltb max_columns (length s) h, p)

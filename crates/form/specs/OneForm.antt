@@ -1,20 +1,22 @@
 -- What is shown of the filing form (document 02, S-1): claims over all accepted texts. They are proved in proofs/OneForm.
 use Rattle.std.specs.Prelude.{◌≡◌, ◌↔◌, List, ℕ, ◌≤◌, length, drop}
+use Rattle.std.specs.Result.{IsOk}
 use Rattle.order.specs.Sorting.{In, Same}
 use Rattle.job.specs.declared.Job.{Job}
 use Rattle.job.specs.Literals.{Clause}
 use Rattle.job.specs.Meaning.{Run, is_run}
 use Rattle.scan.specs.Lines.{lines}
-use Rattle.parse.specs.declared.Verdict.TheVariants.{Accepted}
+use Rattle.parse.specs.Answers.{table_of}
 use Rattle.parse.specs.Reading.{reading}
 use Rattle.form.specs.Lemmas.{remaining}
 use Rattle.form.specs.Form.{kept, lemmas_of, form}
 
 abbrev pub IsJob : List ℕ → Type 0
-IsJob text = (reading text).verdict ≡ Accepted
+IsJob text = IsOk (reading text)
 
+-- its table; that of zeros, where it is refused
 abbrev pub job_of : List ℕ → Job
-job_of text = (reading text).job
+job_of text = table_of (reading text)
 
 abbrev pub form_of : List ℕ → List ℕ
 form_of text = form text (job_of text)

@@ -1,2 +1,1 @@
--- The laws of a name that is looked up.
-pub mod ItemLaws
+-- No law.

@@ -1,109 +1,59 @@
 // A name of a lemma as a field: it goes from the cursor to the next space or the line's end, and the cursor moves on to there.
-// The reader that is handed the cursor comes first, then the one that is lent it, and above that one with a line and a column.
+// The reader that is handed the cursor comes first, then the one that is lent it.
 #![tactic(auto)]
 
-ghost use Rattle.std.specs.Prelude.{◌≡◌, ◌-◌, ◌≤◌, length};
-ghost use Rattle.std.proofs.Math.Seq.{slice};
+ghost use Rattle.std.specs.Prelude.{◌≡◌};
 ghost use Rattle.items.specs.Items.{known_in, item_field};
 
 use fields::Cursor;
 use job::Job;
-use scan::Found;
 
-// What a name of a lemma names: an item, counted from 1, or nothing of this job.
-#[derive(Clone, Copy)]
-pub enum Named {
-    Item(usize),
-    Unknown,
-}
-
-// That answer, and the cursor behind the name.
-#[derive(Clone, Copy)]
+// What a name of a lemma names: an item, counted from 1, or nothing of this job; and the cursor behind the name.
+#[derive(Clone, Copy, PartialEq, Eq, Debug)]
 pub struct Name {
-    pub named: Named,
+    pub named: Option<usize>,
     pub at: Cursor,
 }
 
-// The name from from to to, looked up among m labels and n names of variables.
-fn item_of<'a>(
-    labels: &'a [u8],
-    names: &'a [u8],
-    m: usize,
-    n: usize,
-    s: &[u8],
-    from: usize,
-    to: usize,
-) -> Named
-    requires { to - from ≤ length s.now - from }
-    ensures { result ≡ known_in labels.now names.now m n (slice from to s.now) }
+// The name, looked up among the labels of the steps and then among the names of the variables.
+#[tactic(auto, unfolding(crate::specs::Items::named_in, lists::specs::Tests::within, lists::specs::Tests::every))]
+fn item_of(job: &Job, name: &[u8]) -> Option<usize>
+    ensures { result ≡ known_in job.now.labels job.now.names job.now.program.steps job.now.program.variables name.now }
 {
-    if Job::STEPS < m {
-        return Named::Unknown;
+    let steps = job.program.steps;
+    let variables = job.program.variables;
+    if Job::STEPS < steps || Job::STEPS < variables {
+        return None;
     }
-    if Job::STEPS < n {
-        return Named::Unknown;
+    if !(1..=4).contains(&name.len()) {
+        return None;
     }
-    if to <= from {
-        return Named::Unknown;
+    if let Some(c) = scan::find(&job.labels, steps, name) {
+        return Some(c + 1);
     }
-    if 4 < to - from {
-        return Named::Unknown;
-    }
-    let step = scan::find(labels, m, s, from, to);
-    if let Found::At(i) = step {
-        return Named::Item(i + 1);
-    }
-    let variable = scan::find(names, n, s, from, to);
-    let Found::At(i) = variable else {
-        return Named::Unknown;
-    };
-    Named::Item(m + i + 1)
+    let x = scan::find(&job.names, variables, name)?;
+    Some(steps + x + 1)
 }
 
-fn item<'a>(labels: &'a [u8], names: &'a [u8], m: usize, n: usize, s: &[u8], at: Cursor) -> Name
-    ensures { result ≡ item_field labels.now names.now m n s.now at }
+#[tactic(auto, unfolding(crate::specs::Items::item_field))]
+pub fn item(job: &Job, s: &[u8], at: Cursor) -> Name
+    ensures { result ≡ item_field job.now.labels job.now.names job.now.program.steps job.now.program.variables s.now at }
 {
-    let from = at.column;
-    let to = scan::end_of(s, from, b' ');
-    let named = item_of(labels, names, m, n, s, from, to);
+    let name = scan::word(s, at.column, b' ');
     Name {
-        named,
+        named: item_of(job, name),
         at: Cursor {
-            line: at.line,
-            column: to,
+            column: at.column + name.len(),
+            ..at
         },
     }
 }
 
-fn read_item<'a>(
-    labels: &'a [u8],
-    names: &'a [u8],
-    m: usize,
-    n: usize,
-    s: &[u8],
-    at: &mut Cursor,
-) -> Named
-    ensures { (result ≡ (item_field labels.now names.now m n s.now at.old).named)
-        × (at.new ≡ (item_field labels.now names.now m n s.now at.old).at) }
+pub fn read_item(job: &Job, s: &[u8], at: &mut Cursor) -> Option<usize>
+    ensures item { result ≡ (item_field job.now.labels job.now.names job.now.program.steps job.now.program.variables s.now at.old).named }
+    ensures cursor { at.new ≡ (item_field job.now.labels job.now.names job.now.program.steps job.now.program.variables s.now at.old).at }
 {
-    let name = item(labels, names, m, n, s, *at);
+    let name = item(job, s, *at);
     *at = name.at;
     name.named
-}
-
-pub fn item_at<'a>(
-    labels: &'a [u8],
-    names: &'a [u8],
-    m: usize,
-    n: usize,
-    s: &[u8],
-    line: usize,
-    column: usize,
-) -> Name
-    ensures { result ≡
-        item_field labels.now names.now m n s.now (record { line = line; column = column }) }
-{
-    let mut at = Cursor { line, column };
-    let named = read_item(labels, names, m, n, s, &mut at);
-    Name { named, at }
 }

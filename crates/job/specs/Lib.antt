@@ -1,5 +1,6 @@
 -- The definitions that a reader must believe, in the order of document 01.
 pub mod Limits
+pub mod Faults
 pub mod Answers
 pub mod Literals
 pub mod Table

@@ -1,25 +1,25 @@
 // Line 1 and the step line (document 01, 'The job text'), read field by field from left to right.
 #![tactic(auto)]
 
-ghost use Rattle.std.specs.Prelude.{◌≡◌, ◌<◌, length, drop};
+ghost use Rattle.std.specs.Prelude.{◌≡◌, ◌≤◌, drop};
 ghost use Rattle.lines.specs.FirstLine.{value_of, number_at, word_of, first_line};
-ghost use Rattle.lines.specs.StepLine.{begun as begun_step, bit_of, else_line, end_line, goto_line, test_line, kind_line, step_line};
+ghost use Rattle.lines.specs.StepLine.{begun as begun_step, else_line, end_line, goto_line, test_line, kind_line, step_line};
 
-use fields::{Cursor, Field};
-use job::Job;
-use scan::Found;
+use fields::Cursor;
+use job::{Fault, Kind, Word};
+use lists::get_or;
 
-// What line 1 says: R, and the word's code.
-#[derive(Clone, Copy)]
-pub enum FirstLine {
-    Bound(usize, u8),
-    Refused(u8),
+// What line 1 says: R, and the word.
+#[derive(Clone, Copy, PartialEq, Eq, Debug)]
+pub struct FirstLine {
+    pub bound: usize,
+    pub word: Word,
 }
 
 // What a step line says: its kind, where its name ends, V's columns, v, L's columns, and where M starts.
-#[derive(Clone, Copy)]
+#[derive(Clone, Copy, PartialEq, Eq, Debug)]
 pub struct Step {
-    pub kind: u8,
+    pub kind: Kind,
     pub name: usize,
     pub variable: usize,
     pub equals: usize,
@@ -29,29 +29,25 @@ pub struct Step {
     pub other: usize,
 }
 
-#[derive(Clone, Copy)]
-pub enum StepLine {
-    Line(Step),
-    Refused(u8),
-}
-
+#[tactic(auto, unfolding(crate::specs::FirstLine::value_of, lists::specs::Tests::within, lists::specs::Tests::every))]
 fn value(b: u8) -> usize
-    ensures { result ≡ value_of b }
+    ensures value { result ≡ value_of b }
+    ensures digit { result ≤ 9 }
 {
-    if fields::is_digit(b) {
+    if b.is_ascii_digit() {
         b as usize - 48
     } else {
         0
     }
 }
 
+#[tactic(auto, unfolding(crate::specs::FirstLine::number_at, lists::specs::Tests::within, lists::specs::Tests::every))]
 fn number_at(s: &[u8], column: usize) -> usize
-    requires { column < length s.now }
     ensures { result ≡ number_at s.now column }
 {
-    let a = scan::byte_at(s, column);
-    let b = scan::byte_at(s, column + 1);
-    if fields::is_digit(b) {
+    let a = get_or(s, column, 0);
+    let b = get_or(s, column.saturating_add(1), 0);
+    if b.is_ascii_digit() {
         value(a) * 10 + value(b)
     } else {
         value(a)
@@ -59,152 +55,132 @@ fn number_at(s: &[u8], column: usize) -> usize
 }
 
 // The word of line 1, where R ends at column.
-fn word_of(s: &[u8], column: usize) -> u8
+#[tactic(auto, unfolding(crate::specs::FirstLine::word_of))]
+fn word_of(s: &[u8], column: usize) -> Word
     ensures { result ≡ word_of (drop column s.now) }
 {
     if fields::rest_is(s, column, b" crash") {
-        return Job::CRASH;
+        return Word::Crash;
     }
     if fields::rest_is(s, column, b" start") {
-        return Job::START;
+        return Word::Start;
     }
-    Job::NO_WORD
+    Word::Free
 }
 
 // Line 1: `bound R`, and perhaps a word.
-pub fn first_line(s: &[u8], at: Cursor) -> FirstLine
+#[tactic(auto, unfolding(crate::specs::FirstLine::after, crate::specs::FirstLine::first_line))]
+pub fn first_line(s: &[u8], at: Cursor) -> Result<FirstLine, Fault>
     ensures { result ≡ first_line s.now at }
 {
-    let m = lent::bound_word_at(s, at.line, at.column);
-    let f = m.field;
-    let Field::Read = f else {
-        return FirstLine::Refused(fields::number(f));
+    let mut at = at;
+    let bound_word = lent::read(fields::bound_word, s, &mut at);
+    let Ok(()) = bound_word else {
+        return Err(bound_word.unwrap_err());
     };
-    let a = m.at;
-    let n = lent::range_at(s, a.line, a.column);
-    let g = n.field;
-    let Field::Read = g else {
-        return FirstLine::Refused(fields::number(g));
+    let number = at.column;
+    let range = lent::read(fields::range, s, &mut at);
+    let Ok(()) = range else {
+        return Err(range.unwrap_err());
     };
-    let b = n.at;
-    let o = lent::bound_end_at(s, b.line, b.column);
-    let h = o.field;
-    let Field::Read = h else {
-        return FirstLine::Refused(fields::number(h));
+    let word = at.column;
+    let bound_end = lent::read(fields::bound_end, s, &mut at);
+    let Ok(()) = bound_end else {
+        return Err(bound_end.unwrap_err());
     };
-    FirstLine::Bound(number_at(s, a.column), word_of(s, b.column))
-}
-
-fn else_line(s: &[u8], at: Cursor, p: Step) -> StepLine
-    ensures { result ≡ else_line s.now at p }
-{
-    let m = lent::else_word_at(s, at.line, at.column);
-    let f = m.field;
-    let Field::Read = f else {
-        return StepLine::Refused(fields::number(f));
-    };
-    let o = m.at;
-    let n = lent::other_label_at(s, o.line, o.column);
-    let g = n.field;
-    let Field::Read = g else {
-        return StepLine::Refused(fields::number(g));
-    };
-    StepLine::Line(Step {
-        kind: p.kind,
-        name: p.name,
-        variable: p.variable,
-        equals: p.equals,
-        value: p.value,
-        to: p.to,
-        end: p.end,
-        other: o.column,
+    Ok(FirstLine {
+        bound: number_at(s, number),
+        word: word_of(s, word),
     })
 }
 
-fn end_line(s: &[u8], at: Cursor, p: Step) -> StepLine
-    ensures { result ≡ end_line s.now at p }
+#[tactic(auto, unfolding(crate::specs::FirstLine::after, crate::specs::StepLine::else_line))]
+fn else_line(s: &[u8], at: Cursor, step: Step) -> Result<Step, Fault>
+    ensures { result ≡ else_line s.now at step }
 {
-    let m = lent::step_end_at(s, at.line, at.column);
-    let f = m.field;
-    let Field::Read = f else {
-        return StepLine::Refused(fields::number(f));
+    let mut at = at;
+    let else_word = lent::read(fields::else_word, s, &mut at);
+    let Ok(()) = else_word else {
+        return Err(else_word.unwrap_err());
     };
-    StepLine::Line(p)
+    let other = at.column;
+    let label = lent::read(fields::other_label, s, &mut at);
+    let Ok(()) = label else {
+        return Err(label.unwrap_err());
+    };
+    Ok(Step { other, ..step })
 }
 
-fn goto_line(s: &[u8], at: Cursor, p: Step) -> StepLine
-    ensures { result ≡ goto_line s.now at p }
+#[tactic(auto, unfolding(crate::specs::FirstLine::after, crate::specs::StepLine::end_line))]
+fn end_line(s: &[u8], at: Cursor, step: Step) -> Result<Step, Fault>
+    ensures { result ≡ end_line s.now at step }
 {
-    let m = lent::goto_word_at(s, at.line, at.column);
-    let f = m.field;
-    let Field::Read = f else {
-        return StepLine::Refused(fields::number(f));
+    let mut at = at;
+    let end = lent::read(fields::step_end, s, &mut at);
+    let Ok(()) = end else {
+        return Err(end.unwrap_err());
     };
-    let l = m.at;
-    let n = lent::to_label_at(s, l.line, l.column);
-    let g = n.field;
-    let Field::Read = g else {
-        return StepLine::Refused(fields::number(g));
+    Ok(step)
+}
+
+#[tactic(auto, unfolding(crate::specs::FirstLine::after, crate::specs::StepLine::goto_line))]
+fn goto_line(s: &[u8], at: Cursor, step: Step) -> Result<Step, Fault>
+    ensures { result ≡ goto_line s.now at step }
+{
+    let mut at = at;
+    let goto_word = lent::read(fields::goto_word, s, &mut at);
+    let Ok(()) = goto_word else {
+        return Err(goto_word.unwrap_err());
     };
-    let e = n.at;
-    let q = Step {
-        kind: p.kind,
-        name: p.name,
-        variable: p.variable,
-        equals: p.equals,
-        value: p.value,
-        to: l.column,
-        end: e.column,
-        other: 0,
+    let to = at.column;
+    let label = lent::read(fields::to_label, s, &mut at);
+    let Ok(()) = label else {
+        return Err(label.unwrap_err());
     };
-    if p.kind == 4 {
-        else_line(s, e, q)
-    } else {
-        end_line(s, e, q)
+    let step = Step {
+        to,
+        end: at.column,
+        ..step
+    };
+    match step.kind {
+        Kind::If => else_line(s, at, step),
+        _ => end_line(s, at, step),
     }
 }
 
-fn bit_of(b: u8) -> u8
-    ensures { result ≡ bit_of b }
+#[tactic(auto, unfolding(crate::specs::FirstLine::after, crate::specs::StepLine::test_line, crate::specs::StepLine::bit_of))]
+fn test_line(s: &[u8], at: Cursor, step: Step) -> Result<Step, Fault>
+    ensures { result ≡ test_line s.now at step }
 {
-    if b == b'1' { 1 } else { 0 }
+    let mut at = at;
+    let variable = at.column;
+    let word = lent::read(fields::variable, s, &mut at);
+    let Ok(()) = word else {
+        return Err(word.unwrap_err());
+    };
+    let equals = at.column;
+    let sign = lent::read(fields::equals, s, &mut at);
+    let Ok(()) = sign else {
+        return Err(sign.unwrap_err());
+    };
+    let value = u8::from(get_or(s, at.column, 0) == b'1');
+    let bit = lent::read(fields::bit, s, &mut at);
+    let Ok(()) = bit else {
+        return Err(bit.unwrap_err());
+    };
+    goto_line(
+        s,
+        at,
+        Step {
+            variable,
+            equals,
+            value,
+            ..step
+        },
+    )
 }
 
-fn test_line(s: &[u8], at: Cursor, p: Step) -> StepLine
-    ensures { result ≡ test_line s.now at p }
-{
-    let m = lent::variable_at(s, at.line, at.column);
-    let f = m.field;
-    let Field::Read = f else {
-        return StepLine::Refused(fields::number(f));
-    };
-    let a = m.at;
-    let n = lent::equals_at(s, a.line, a.column);
-    let g = n.field;
-    let Field::Read = g else {
-        return StepLine::Refused(fields::number(g));
-    };
-    let b = n.at;
-    let o = lent::bit_at(s, b.line, b.column);
-    let h = o.field;
-    let Field::Read = h else {
-        return StepLine::Refused(fields::number(h));
-    };
-    let v = bit_of(scan::byte_at(s, b.column));
-    let q = Step {
-        kind: p.kind,
-        name: p.name,
-        variable: at.column,
-        equals: a.column,
-        value: v,
-        to: 0,
-        end: 0,
-        other: 0,
-    };
-    goto_line(s, o.at, q)
-}
-
-fn begun(kind: u8, name: usize) -> Step
+fn begun(kind: Kind, name: usize) -> Step
     ensures { result ≡ begun_step kind name }
 {
     Step {
@@ -219,63 +195,53 @@ fn begun(kind: u8, name: usize) -> Step
     }
 }
 
-fn kind_line(s: &[u8], b: Cursor, name: usize) -> StepLine
-    ensures { result ≡ kind_line s.now b name }
+// What follows a name and its space, by kind; the space behind `maybe` and `critical` is that of ` goto `.
+#[tactic(auto, unfolding(crate::specs::StepLine::kind_line))]
+fn kind_line(s: &[u8], at: Cursor, name: usize) -> Result<Step, Fault>
+    ensures { result ≡ kind_line s.now at name }
 {
-    let at = b.column;
-    if scan::follows(s, at, b"maybe ") {
-        return goto_line(
-            s,
-            Cursor {
-                line: b.line,
-                column: at + 5,
-            },
-            begun(1, name),
-        );
+    if scan::follows(s, at.column, b"maybe ") {
+        let behind = Cursor {
+            column: at.column + 5,
+            ..at
+        };
+        return goto_line(s, behind, begun(Kind::Maybe, name));
     }
-    if scan::follows(s, at, b"critical ") {
-        return goto_line(
-            s,
-            Cursor {
-                line: b.line,
-                column: at + 8,
-            },
-            begun(2, name),
-        );
+    if scan::follows(s, at.column, b"critical ") {
+        let behind = Cursor {
+            column: at.column + 8,
+            ..at
+        };
+        return goto_line(s, behind, begun(Kind::Critical, name));
     }
-    if scan::follows(s, at, b"if ") {
-        return test_line(
-            s,
-            Cursor {
-                line: b.line,
-                column: at + 3,
-            },
-            begun(4, name),
-        );
+    if scan::follows(s, at.column, b"if ") {
+        let behind = Cursor {
+            column: at.column + 3,
+            ..at
+        };
+        return test_line(s, behind, begun(Kind::If, name));
     }
-    test_line(s, b, begun(3, name))
+    test_line(s, at, begun(Kind::Assign, name))
 }
 
 // A step line: its name, 12, 13, and then by kind. The steps so far have count labels.
-pub fn step_line(labels: &[u8], count: usize, s: &[u8], at: Cursor) -> StepLine
+#[tactic(auto, unfolding(crate::specs::FirstLine::after, crate::specs::StepLine::step_line, crate::specs::StepLine::fresh))]
+pub fn step_line(labels: &[u8], count: usize, s: &[u8], at: Cursor) -> Result<Step, Fault>
     ensures { result ≡ step_line labels.now count s.now at }
 {
-    let m = lent::name_at(s, at.line, at.column);
-    let f = m.field;
-    let Field::Read = f else {
-        return StepLine::Refused(fields::number(f));
+    let mut at = at;
+    let word = scan::word(s, at.column, b' ');
+    let name = lent::read(fields::name, s, &mut at);
+    let Ok(()) = name else {
+        return Err(name.unwrap_err());
     };
-    let a = m.at;
-    let from = at.column;
-    let to = a.column;
-    let w = scan::find(labels, count, s, from, to);
-    let Found::Nothing = w else {
-        return StepLine::Refused(Field::NAME_USED);
+    let end = at.column;
+    if scan::find(labels, count, word).is_some() {
+        return Err(Fault::NameUsed);
+    }
+    let space = lent::read(fields::space, s, &mut at);
+    let Ok(()) = space else {
+        return Err(space.unwrap_err());
     };
-    let n = lent::space_at(s, a.line, a.column);
-    let g = n.field;
-    let Field::Read = g else {
-        return StepLine::Refused(fields::number(g));
-    };
-    kind_line(s, n.at, to)
+    kind_line(s, at, end)
 }

@@ -10,18 +10,19 @@ use lib.Dec.{eqb}
 use lib.IntN.{ℤ}
 use lib.ListN.{length, take, drop, length-append, length-drop, drop_of_length-le}
 use lib.Seq.{take_at}
+use Rattle.lists.proofs.TestLaws.{within_is}
 use Rattle.lists.specs.Rows.{each}
 use Rattle.lists.specs.Writing.{write}
 use Rattle.lists.proofs.WritingLaws.{write_none}
 use Rattle.job.specs.declared.Job.{Job}
-use Rattle.job.specs.declared.Refusal.{Refusal}
+use Rattle.job.specs.Answers.{gives}
+use Rattle.job.specs.declared.refusal.Refusal.{Refusal}
 use Rattle.job.specs.Literals.{Clause}
 use Rattle.job.specs.Clauses.{clauses}
 use Rattle.job.specs.Fitness.{fit}
-use Rattle.cnf.specs.declared.Written.{Written}
-use Rattle.cnf.specs.declared.Written.TheVariants.{Refused}
-use Rattle.cnf.specs.declared.Written.TheVariants.{Piece as Given}
-use Rattle.cnf.specs.Answers.{Counts, answer_of}
+use Rattle.std.specs.Prelude.{Result, Ok, Err}
+use Rattle.job.specs.Answers.{answer_of}
+use Rattle.cnf.specs.declared.Piece.{Piece as Given}
 use Rattle.cnf.specs.Piece.{least_room, fitting, flat, piece, refusal, answer, buffer, written, buffer_after}
 use Rattle.cnf.proofs.PieceLaws.{no_refusal}
 use Rattle.pieces.proofs.Joined.{flat_append, all_clauses}
@@ -44,56 +45,57 @@ pub no_text : (cs : List Clause) (out : List ℕ) → cs ≡ [] → PieceText cs
 unfolding flat numbers_text
 no_text cs out e = rw e (record { clauses = refl; bytes = refl; holds = write_none out 0 })
 
-module _ (J : Job) (c : ℕ) (old new : List ℤ) (w : Written) (given : (answer_of w ≡ written J c old) × (new ≡ buffer_after J c old)) where
+module _ (J : Job) (c : ℕ) (old new : List ℤ) (w : Result Given Refusal)
+    (given : (answer_of w ≡ written J c old) × (new ≡ buffer_after J c old)) where
   abbrev cs : List Clause
   cs = next_piece J c (length old)
 
-  pub piece_refused : (f : Refusal) → w ≡ Refused f → next_piece J c (length old) ≡ []
+  pub piece_refused : (f : Refusal) → w ≡ Err f → next_piece J c (length old) ≡ []
   unfolding written next_piece
   piece_refused f e = go (refusal J c (length old)) (sym (ap answer_of e) ∙ given.0)
     where
-      go : (x : ℕ) → answer_of (Refused f) ≡ answer x (piece J c (length old)) → cond (eqb x 0) (piece J c (length old)) [] ≡ []
+      go : (x : ℕ) → answer_of (Err f) ≡ answer x (piece J c (length old)) → cond (eqb x 0) (piece J c (length old)) [] ≡ []
       go zero h = let z : ◌≡◌ {A = ℕ} 0 1 = cc in absurd (omega arith)
       go (suc x) h = rw (ne_eqb (suc x) 0 (λ e. omega arith))
 
-  pub piece_given : (k n : ℕ) → w ≡ Given k n → let cs = next_piece J c (length old) in
-      (k ≡ length cs) × (n ≡ length (flat cs)) × (new ≡ write old 0 (flat cs))
+  pub piece_given : (p : Given) → w ≡ Ok p → let cs = next_piece J c (length old) in
+      (p.clauses ≡ length cs) × (p.numbers ≡ length (flat cs)) × (new ≡ write old 0 (flat cs))
   unfolding written buffer_after next_piece
-  piece_given k n e = go (refusal J c (length old)) (sym (ap answer_of e) ∙ given.0) given.1
+  piece_given p e = go (refusal J c (length old)) (sym (ap answer_of e) ∙ given.0) given.1
     where
-      go : (x : ℕ) → answer_of (Given k n) ≡ answer x (piece J c (length old)) → new ≡ buffer x (piece J c (length old)) old
-          → let cs = cond (eqb x 0) (piece J c (length old)) [] in (k ≡ length cs) × (n ≡ length (flat cs)) × (new ≡ write old 0 (flat cs))
+      go : (x : ℕ) → gives p ≡ answer x (piece J c (length old)) → new ≡ buffer x (piece J c (length old)) old
+          → let cs = cond (eqb x 0) (piece J c (length old)) [] in
+          (p.clauses ≡ length cs) × (p.numbers ≡ length (flat cs)) × (new ≡ write old 0 (flat cs))
       go zero h b =
           let cs = piece J c (length old) in
-          let counts : Counts = record { clauses = k; numbers = n } in
-          let i : counts ≡ record { clauses = length cs; numbers = length (flat cs) } = cc in
-          (ap (λ (i : Counts). i.clauses) i, ap (λ (i : Counts). i.numbers) i, b)
+          let i : p ≡ record { clauses = length cs; numbers = length (flat cs) } = cc in
+          (ap (λ (i : Given). i.clauses) i, ap (λ (i : Given). i.numbers) i, b)
       go (suc x) h b = let z : ◌≡◌ {A = ℕ} 0 1 = cc in absurd (omega arith)
 
   -- the numbers written are the front of the buffer, whatever follows
-  module _ (k n : ℕ) (e : w ≡ Given k n) (same : length new ≡ length old) where
-    pub piece_within : n ≤ length old
+  module _ (p : Given) (e : w ≡ Ok p) (same : length new ≡ length old) where
+    pub piece_within : p.numbers ≤ length old
     piece_within =
-        let (_, i, h) = piece_given k n e in
+        let (_, i, h) = piece_given p e in
         let f = flat cs in
         omega (arith, ap length h ∙ length-append f (drop (0 + length f) old), length-drop (0 + length f) old)
 
-    pub piece_front : (rest : List ℤ) → take n (new ++ rest) ≡ flat (next_piece J c (length old))
+    pub piece_front : (rest : List ℤ) → take p.numbers (new ++ rest) ≡ flat (next_piece J c (length old))
     piece_front rest =
-        let (_, i, h) = piece_given k n e in
+        let (_, i, h) = piece_given p e in
         let f = flat cs in
-        ap (λ l. take n (l ++ rest)) h ∙ rw append_assoc (take_at f (drop (0 + length f) old ++ rest) n (sym i))
+        ap (λ l. take p.numbers (l ++ rest)) h ∙ rw append_assoc (take_at f (drop (0 + length f) old ++ rest) p.numbers (sym i))
 
     -- and their text is that of the clauses
     pub piece_text : (rest : List ℤ) (out out' : List ℕ) (t : Texted)
-        → let xs = take n (new ++ rest) in
+        → let xs = take p.numbers (new ++ rest) in
         ((t ≡ texted (length xs) (number_text xs) out) × (out' ≡ with_texts (length xs) (number_text xs) out))
         × (length xs * number_room ≤ length out → t.count ≡ length xs)
         → length old * number_room ≤ length out
-        → PieceText (next_piece J c (length old)) out (record { clauses = k; length = t.bytes }) out'
+        → PieceText (next_piece J c (length old)) out (record { clauses = p.clauses; length = t.bytes }) out'
     piece_text rest out out' t (said, counts) room =
-        let (j, i, h) = piece_given k n e in
-        let xs : List ℤ = take n (new ++ rest) in
+        let (j, i, h) = piece_given p e in
+        let xs : List ℤ = take p.numbers (new ++ rest) in
         let front : xs ≡ flat cs = piece_front rest in
         let all = texts_counted (length xs) (number_text xs) out out' t said (counts (omega (arith, ap length front, piece_within))) in
         let same : each (length xs) (number_text xs) ≡ clause_text cs = numbers_are xs ∙ ap numbers_text front in
@@ -119,7 +121,7 @@ next_is J h c room low wide = go (dec_lt (length (clauses J)) c)
     go : Dec (length (clauses J) < c) → cond (eqb (refusal J c room) 0) (piece J c room) [] ≡ piece J c room
     go (yes past) = cond_same (eqb (refusal J c room) 0) (piece J c room) []
         (ap (fitting room) (drop_of_length-le (clauses J) {i = c - 1} (omega arith)))
-    go (no here) = rw (no_refusal J c room h low (omega arith) wide)
+    go (no here) = rw (no_refusal J c room h (within_is 1 (length (clauses J)) c low (omega arith)) wide)
 
 pub next_some : (J : Job) → fit J ≡ true → (c room : ℕ) → 1 ≤ c → c ≤ length (clauses J) → least_room ≤ room
     → (0 < length (next_piece J c room)) × (c + length (next_piece J c room) ≤ length (clauses J) + 1)

@@ -6,29 +6,29 @@ use native.Mathlib.Omega.{arith}
 use borrow.Author.Tests.{le-leb}
 use lib.ListN.{length, take, drop, length-append, length-drop, drop_of_length-le}
 use lib.Seq.{take-length, take_at, drop-drop}
+use Rattle.std.specs.Option.{unwrap_or}
+use Rattle.std.proofs.Common.{Option, Result, Ok, Err}
+use Rattle.job.specs.declared.refusal.Refusal.{Refusal}
 use Rattle.lists.specs.Writing.{write}
 use Rattle.text.specs.Whole.{printed, with_text}
-use Rattle.text.specs.declared.Printed.{Printed}
-use Rattle.text.specs.declared.Printed.TheVariants.{Bytes, Short}
-use Rattle.outputs.specs.Printing.{zeros, Holds}
+use Rattle.text.specs.Lines.{refused}
+use Rattle.outputs.specs.Printing.{zeros, Holds, Shows, Prints}
 
-module _ (text old new : List ℕ) (room : length text ≤ length old) (r : Printed)
+-- a text that has room is put whole
+module _ (text old new : List ℕ) (room : length text ≤ length old) (r : Option ℕ)
     (given : (r ≡ printed text old) × (new ≡ with_text text old)) where
-  whole : r ≡ Bytes (length text)
-  unfolding printed
-  whole = given.0 ∙ rw (le-leb (length text) (length old) room)
+  pub given_whole : (unwrap_or r 0 ≡ length text) × (new ≡ write old 0 text)
+  unfolding printed with_text
+  given_whole =
+      let fits = le-leb (length text) (length old) room in
+      (rw (given.0, fits), given.1 ∙ rw fits)
 
-  pub given_bytes : (n : ℕ) → r ≡ Bytes n → (n ≡ length text) × (new ≡ write old 0 text)
-  unfolding with_text
-  given_bytes n e =
-      let k : Bytes n ≡ Bytes (length text) = sym e ∙ whole in
-      (cc, given.1 ∙ rw (le-leb (length text) (length old) room))
-
-  pub given_short : r ≡ Short → ⊥
-  given_short e =
-      let k : Short ≡ Bytes (length text) = sym e ∙ whole in
-      let z : ◌≡◌ {A = ℕ} 0 1 = cc in
-      omega arith
+-- what is made, or else the refusal's line, is the text
+pub shows_prints : (text old mid new : List ℕ) (n : ℕ) (x : Result ℕ Refusal) → Shows text x old mid → Prints x mid n new
+    → (n ≡ length text) × (new ≡ write old 0 text)
+shows_prints text old mid new n (Ok k) (size, holds) (count, same) = (count ∙ size, same ∙ holds)
+shows_prints text old mid new n (Err r) (line, same) (count, holds) =
+    (count ∙ ap length line, holds ∙ ap (λ l. write l 0 (refused r)) same ∙ ap (write old 0) line)
 
 -- a text that was put is another that equals it
 pub put_as : (old : List ℕ) {new p q : List ℕ} {n : ℕ} → (n ≡ length p) × (new ≡ write old 0 p) → p ≡ q

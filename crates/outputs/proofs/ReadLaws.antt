@@ -1,83 +1,67 @@
--- What is printed of a text by what reading it answered: acceptance or a refusal.
-use mathlib.Core.Path.{◌≡◌, refl, sym, ap, ◌∙◌, subst}
-use mathlib.Core.Bool.{true}
-use mathlib.Core.List.{List, [], ◌++◌, append-nil}
-use Prim.Native.Nat.{ℕ, ◌≤◌, ◌<◌}
-use native.Mathlib.Omega.{arith}
+-- What is printed of a text by what reading it answered: a job or a refusal.
+use Rattle.std.proofs.Common.{◌≡◌, refl, sym, ap, ◌∙◌, true, List, ◌++◌, append-nil, ℕ, ◌≤◌, arith, length}
+use Rattle.std.proofs.Common.{Some, None}
+use Rattle.std.proofs.Common.{Result, Ok, Err}
+use Rattle.std.specs.Result.{is_ok}
 use borrow.Author.Tests.{le-ltb}
-use lib.ListN.{length}
 use Rattle.lists.specs.Writing.{write}
-use Rattle.job.specs.declared.Refusal.{Refusal}
+use Rattle.job.specs.declared.refusal.Refusal.{Refusal}
 use Rattle.job.specs.declared.Job.{Job}
-use Rattle.job.specs.Answers.{Answer, gives, refuses}
+use Rattle.job.specs.Faults.{number_of}
+use Rattle.job.specs.Answers.{Answer, gives, refuses, answer_of}
 use Rattle.job.specs.Limits.{max_text}
 use Rattle.job.specs.Clauses.{clauses}
 use Rattle.job.specs.Fitness.{fit}
-use Rattle.parse.specs.declared.Reading.{Reading}
-use Rattle.parse.specs.declared.Verdict.{Verdict}
-use Rattle.parse.specs.declared.Verdict.TheVariants.{Accepted, Refused}
-use Rattle.parse.specs.Answers.{answer_of}
+use Rattle.parse.specs.Answers.{forgotten, table_of}
 use Rattle.parse.specs.Reading.{reading, read_job}
-use Rattle.parse.proofs.ReadingLaws.{Promised, is_reading}
 use Rattle.parse.proofs.AcceptedFit.{accepted_fit}
 use Rattle.form.specs.Form.{form}
 use Rattle.form.proofs.AcceptedLaws.{told}
-use Rattle.filing.specs.declared.Filed.{Filed}
-use Rattle.filing.specs.declared.Filed.TheVariants.{Length, Refused as Denied}
-use Rattle.filing.specs.Answers.{answer_of as answerOfFiled}
 use Rattle.filing.specs.Filing.{judged, filing}
 use Rattle.cnf.specs.Piece.{flat}
 use Rattle.text.specs.Dimacs.{numbers_text}
-use Rattle.text.specs.Lines.{refused}
-use Rattle.outputs.specs.Printing.{refusal_text, or_refusal}
+use Rattle.text.specs.Lines.{refusal_line, refused}
+use Rattle.outputs.specs.declared.dimacs.Following.{Following}
+use Rattle.outputs.specs.Printing.{or_refusal, Shows}
 use Rattle.outputs.specs.Show.{reply_text, shown}
-use Rattle.outputs.specs.Dimacs.{clause_text, before, dimacs, opened, behind, following}
+use Rattle.outputs.specs.Dimacs.{clause_text, before, dimacs, Follows, IsFollowing, opened, behind, following}
 use Rattle.outputs.specs.File.{filed}
 
--- ---- r is what reading gives
+-- ---- of a job
 
-module _ (text : List ℕ) (r : Reading) (is : Promised text r) where
-  module _ (a : r.verdict ≡ Accepted) where
-    is_job : (reading text).verdict ≡ Accepted
-    is_job = rw (is_reading text r is) at a
+module _ (text : List ℕ) (J : Job) (e : reading text ≡ Ok J) where
+  pub read_fits : fit J ≡ true
+  read_fits = accepted_fit text J e
 
-    given : gives tt ≡ (read_job text).answer
-    given = sym (ap answer_of a) ∙ is.0
+  pub read_short : length text ≤ max_text
+  read_short = (told text (ap is_ok e)).size
 
-    pub read_fits : fit r.job ≡ true
-    read_fits = rw (is_reading text r is) (accepted_fit text is_job)
+  pub shown_reply : (reply : List ℕ) → reply_text J reply ≡ shown text reply
+  unfolding shown read_job
+  shown_reply reply = rw e refl
 
-    pub read_short : length text ≤ max_text
-    read_short = (told text is_job).size
+  pub opened_before : before text J ≡ opened text
+  unfolding opened read_job
+  opened_before = rw e refl
 
-    pub shown_reply : (reply : List ℕ) → reply_text r.job reply ≡ shown text reply
-    unfolding shown
-    shown_reply reply =
-        ap (λ J. reply_text J reply) is.1 ∙ ap (λ a. or_refusal a λ _. reply_text (read_job text).table reply) given
+  pub following_job : (f : Following) → f.fit.job ≡ J → f.clauses ≡ length (clauses J) → IsFollowing text (Some f)
+  unfolding read_job
+  following_job f j k = rw e (j, k)
 
-    pub opened_before : before text r.job ≡ opened text
-    unfolding opened
-    opened_before = ap (before text) is.1 ∙ ap (λ a. or_refusal a λ _. before text (read_job text).table) given
+-- ---- of a refusal
 
-    pub following_clauses : clauses r.job ≡ following text
-    unfolding following
-    following_clauses = ap clauses is.1 ∙ ap (λ a. behind a (clauses (read_job text).table)) given
+module _ (text : List ℕ) (r : Refusal) (e : reading text ≡ Err r) where
+  pub shown_refused : (reply : List ℕ) → refused r ≡ shown text reply
+  unfolding shown read_job
+  shown_refused reply = rw e refl
 
-  module _ (f : Refusal) (d : r.verdict ≡ Refused f) where
-    refusal : refuses f.number f.place ≡ (read_job text).answer
-    refusal = sym (ap answer_of d) ∙ is.0
+  pub opened_refused : refused r ≡ opened text
+  unfolding opened read_job
+  opened_refused = rw e refl
 
-    pub shown_refused : (reply : List ℕ) → refused f ≡ shown text reply
-    unfolding shown
-    shown_refused reply = ap (λ a. or_refusal a λ _. reply_text (read_job text).table reply) refusal
-
-    pub opened_refused : refused f ≡ opened text
-    unfolding opened
-    opened_refused = ap (λ a. or_refusal a λ _. before text (read_job text).table) refusal
-
-    pub none_following : [] ≡ following text
-    unfolding following
-    none_following = ap (λ a. behind a (clauses (read_job text).table)) refusal
+  pub following_none : IsFollowing text None
+  unfolding read_job
+  following_none = rw e tt
 
 -- ---- the first program's output in its two parts
 
@@ -91,44 +75,38 @@ dimacs_parts text = go (read_job text).answer
     go (gives x) = refl
     go (refuses number place) = append-nil _
 
--- where clauses follow, the table is fit and they are its clauses
-pub following_some : (text : List ℕ) (J : Job) (k : ℕ) → J ≡ (read_job text).table → k ≡ length (following text) → 0 < k
-    → (fit J ≡ true) × (k ≡ length (clauses J))
-unfolding following read_job
-following_some text J k e n l =
-    let (fits, same) = go (reading text).verdict refl (omega arith) in
-    (rw e fits, n ∙ rw e (ap length same))
+-- what is said to follow a text are as many clauses as its job has
+pub following_counted : (text : List ℕ) (f : Following) → IsFollowing text (Some f) → f.clauses ≡ length (clauses f.fit.job)
+following_counted text f h = go (read_job text).answer h
   where
-    go : (v : Verdict) → (reading text).verdict ≡ v → let J = (reading text).job in
-        0 < length (behind (answer_of v) (clauses J)) → (fit J ≡ true) × (behind (answer_of v) (clauses J) ≡ clauses J)
-    go Accepted e l = (accepted_fit text e, refl)
-    go (Refused f) e l = absurd (omega arith)
+    go : (a : Answer (Unit {0})) → Follows a (read_job text).table (Some f) → f.clauses ≡ length (clauses f.fit.job)
+    go (gives x) (same, count) = count ∙ ap (λ (J : Job). length (clauses J)) (sym same)
+    go (refuses number place) h = absurd h
 
 -- ---- filing, with room for any text
 
-module _ (text old new : List ℕ) (room : max_text ≤ length old) (x : Filed)
-    (given : (answerOfFiled x ≡ (filing text old).answer) × (new ≡ (filing text old).buffer)) where
+module _ (text old new : List ℕ) (room : max_text ≤ length old) (x : Result ℕ Refusal)
+    (given : (answer_of x ≡ (filing text old).answer) × (new ≡ (filing text old).buffer)) where
   -- what is printed is the form that the call gives, or its refusal
-  abbrev Files : List ℕ → Answer ℕ → Type 0
-  Files printed (gives n) = (n ≡ length printed) × (new ≡ write old 0 printed)
-  Files printed (refuses number place) = (refusal_text number place ≡ printed) × (new ≡ old)
-
-  files : Files (filed text) (filing text old).answer
+  pub files : Shows (filed text) x old new
   unfolding filing filed read_job
-  files = go (reading text).verdict refl given.1
+  files = go (reading text) refl x given.0 given.1
     where
-      J : Job
-      J = (reading text).job
-
-      go : (v : Verdict) → (reading text).verdict ≡ v → new ≡ (judged (answer_of v) text J old).buffer
-          → Files (or_refusal (answer_of v) λ _. form text J) (judged (answer_of v) text J old).answer
-      go Accepted e =
-          let short = (told text e).size in
-          rw (le-ltb (length old) (length text) (omega arith)) (λ b. (refl, b))
-      go (Refused f) e = λ b. (refl, b)
-
-  pub filed_form : (n : ℕ) → x ≡ Length n → (n ≡ length (filed text)) × (new ≡ write old 0 (filed text))
-  filed_form n e = subst (Files (filed text)) (sym given.0 ∙ ap answerOfFiled e) files
-
-  pub filed_refused : (f : Refusal) → x ≡ Denied f → (refused f ≡ filed text) × (new ≡ old)
-  filed_refused f e = subst (Files (filed text)) (sym given.0 ∙ ap answerOfFiled e) files
+      go : (r : Result Job Refusal) → reading text ≡ r → (x : Result ℕ Refusal)
+          → answer_of x ≡ (judged (forgotten (answer_of r)) text (table_of r) old).answer
+          → new ≡ (judged (forgotten (answer_of r)) text (table_of r) old).buffer
+          → Shows (or_refusal (forgotten (answer_of r)) λ _. form text (table_of r)) x old new
+      go (Ok J) e x a b =
+          let short = read_short text J e in
+          let room = le-ltb (length old) (length text) (omega arith) in
+          by x (a ∙ rw room refl) (b ∙ rw room refl)
+        where
+          by : (x : Result ℕ Refusal) → answer_of x ≡ gives (length (form text J)) → new ≡ write old 0 (form text J)
+              → Shows (form text J) x old new
+          by (Ok n) a b = (cc, b)
+          by (Err r) a b = let z : ◌≡◌ {A = ℕ} 0 1 = cc in absurd (omega arith)
+      go (Err r) e (Ok n) a b = let z : ◌≡◌ {A = ℕ} 0 1 = cc in absurd (omega arith)
+      go (Err r) e (Err s) a b =
+          let number : number_of s.fault ≡ number_of r.fault = cc in
+          let place : s.place ≡ r.place = cc in
+          (ap (λ n. refusal_line n s.place) number ∙ ap (refusal_line (number_of r.fault)) place, b)

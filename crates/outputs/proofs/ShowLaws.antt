@@ -5,6 +5,7 @@ use mathlib.Core.List.{List}
 use Prim.Native.Nat.{ℕ, suc, ◌≤◌, ◌<◌}
 use native.Mathlib.Omega.{arith}
 use borrow.Author.Tests.{lt-ltb, le-ltb}
+use native.Mathlib.Numerals.{add-one}
 use lib.Dec.{ltb}
 use lib.ListN.{length}
 use Rattle.lists.specs.Rows.{each}
@@ -12,29 +13,25 @@ use Rattle.lists.specs.Writing.{write}
 use Rattle.lists.proofs.Logic.{or_right}
 use Rattle.job.specs.declared.Job.{Job}
 use Rattle.job.specs.declared.Program.{Program}
-use Rattle.job.specs.declared.Refusal.{Refusal}
-use Rattle.job.specs.Answers.{gives}
+use Rattle.job.specs.declared.refusal.Refusal.{Refusal}
+use Rattle.std.specs.Prelude.{Result, Ok, Err}
+use Rattle.job.specs.Answers.{gives, answer_of}
 use Rattle.job.specs.Table.{r}
 use Rattle.job.specs.Numbering.{total}
 use Rattle.job.specs.Fitness.{fit}
 use Rattle.job.specs.ReadOff.{Reading, run, fault, read_fault, run_read, read_off, run_bytes}
 use Rattle.job.proofs.FitnessLaws.{fit_sizes}
-use Rattle.reply.specs.declared.Checked.{Checked}
-use Rattle.reply.specs.declared.Checked.TheVariants.{Accepted, Refused}
 use Rattle.reply.specs.Answers.{outcome}
 use Rattle.reply.specs.Check.{checked}
-use Rattle.readoff.specs.declared.Told.{Told}
-use Rattle.readoff.specs.declared.Told.TheVariants.{Written, Refused as Denied}
-use Rattle.readoff.specs.Answers.{answer_of}
 use Rattle.readoff.specs.ReadingOff.{refusal, named, run_length, reading_fit, reading_off}
 use Rattle.readoff.specs.ReadingOff.{Outcome as Read}
-use Rattle.text.specs.Lines.{refused}
+use Rattle.text.specs.Lines.{refusal_line, refused}
 use Rattle.text.specs.RunText.{run_line, run_lines}
 use Rattle.text.specs.Texts.{texted, with_texts}
 use Rattle.text.specs.declared.Texted.{Texted}
 use Rattle.text.proofs.GroupLaws.{within_limits}
 use Rattle.text.proofs.AllTexts.{texts_all}
-use Rattle.outputs.specs.Printing.{refusal_text, or_refusal, zeros}
+use Rattle.outputs.specs.Printing.{or_refusal, zeros}
 use Rattle.outputs.specs.Show.{max_shown, run_room, shown_room, run_text, checked_text, reply_text}
 use Rattle.outputs.proofs.RunLength.{run_fits}
 
@@ -68,22 +65,22 @@ module _ (J : Job) (fits : fit J ≡ true) (values : List ℕ) where
       go false true = not_written 67 (read_fault P values)
       go false false = λ e. refl
 
-  module _ (told : Told) (given : answer_of told ≡ (reading_off J values (zeros run_room)).answer) where
-    pub run_refused : (f : Refusal) → told ≡ Denied f → refused f ≡ run_text J values
+  module _ (told : Result (Unit {0}) Refusal) (given : answer_of told ≡ (reading_off J values (zeros run_room)).answer) where
+    pub run_refused : (f : Refusal) → told ≡ Err f → refused f ≡ run_text J values
     unfolding run_text
     run_refused f e = ap (λ a. or_refusal a λ _. each (suc (r P)) (run_line J bytes)) (sym (ap answer_of e) ∙ given)
 
-    run_is : told ≡ Written → each (suc (r P)) (run_line J bytes) ≡ run_text J values
+    run_is : told ≡ Ok tt → each (suc (r P)) (run_line J bytes) ≡ run_text J values
     unfolding run_text
     run_is e = ap (λ a. or_refusal a λ _. each (suc (r P)) (run_line J bytes)) (sym (ap answer_of e) ∙ given)
 
     -- the lines have room, so that all of them are written
-    pub run_written : (old buffer out : List ℕ) (t : Texted) → told ≡ Written → buffer ≡ bytes → shown_room ≤ length old
+    pub run_written : (old buffer out : List ℕ) (t : Texted) → told ≡ Ok tt → buffer ≡ bytes → shown_room ≤ length old
         → (t ≡ texted (run_lines J) (run_line J buffer) old) × (out ≡ with_texts (run_lines J) (run_line J buffer) old)
         → (t.bytes ≡ length (run_text J values)) × (out ≡ write old 0 (run_text J values))
     run_written old buffer out t e b room (count, holds) =
         let z = fit_sizes J fits in
-        let n = within_limits J z.bound_high z.variables in
+        let n : run_lines J ≡ suc (r P) = within_limits J z.bound_high z.variables ∙ add-one (r P) in
         let lines = each (suc (r P)) (run_line J bytes) in
         let short : length lines ≤ shown_room = rw (read_bytes (sym (ap answer_of e) ∙ given)) (run_fits J fits values (zeros run_room)) in
         let all = texts_all (suc (r P)) (run_line J bytes) old (omega arith) in
@@ -95,22 +92,22 @@ module _ (J : Job) (fits : fit J ≡ true) (values : List ℕ) where
 -- ---- 52, and the checker's answer
 
 module _ (J : Job) (reply : List ℕ) where
-  pub many_variables : max_shown < total J.program → refusal_text 52 0 ≡ reply_text J reply
+  pub many_variables : max_shown < total J.program → refusal_line 52 0 ≡ reply_text J reply
   unfolding reply_text
   many_variables h = rw (lt-ltb max_shown (total J.program) h)
 
-  pub long_reply : max_shown < length reply → refusal_text 52 0 ≡ reply_text J reply
+  pub long_reply : max_shown < length reply → refusal_line 52 0 ≡ reply_text J reply
   unfolding reply_text
   long_reply h = rw (or_right (ltb max_shown (total J.program)) (lt-ltb max_shown (length reply) h))
 
-  module _ (few : total J.program ≤ max_shown) (short : length reply ≤ max_shown) (answer : Checked) (values : List ℕ)
+  module _ (few : total J.program ≤ max_shown) (short : length reply ≤ max_shown) (answer : Result (Unit {0}) Refusal) (values : List ℕ)
       (given : outcome answer values ≡ checked J reply (zeros max_shown)) where
     is_checked : checked_text J (outcome answer values) ≡ reply_text J reply
     unfolding reply_text
     is_checked = ap (checked_text J) given ∙ rw (le-ltb max_shown (total J.program) few, le-ltb max_shown (length reply) short)
 
-    pub reply_accepted : answer ≡ Accepted → run_text J values ≡ reply_text J reply
+    pub reply_accepted : answer ≡ Ok tt → run_text J values ≡ reply_text J reply
     reply_accepted e = ap (λ a. checked_text J (outcome a values)) (sym e) ∙ is_checked
 
-    pub reply_refused : (f : Refusal) → answer ≡ Refused f → refused f ≡ reply_text J reply
+    pub reply_refused : (f : Refusal) → answer ≡ Err f → refused f ≡ reply_text J reply
     reply_refused f e = ap (λ a. checked_text J (outcome a values)) (sym e) ∙ is_checked

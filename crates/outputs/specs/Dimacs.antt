@@ -1,7 +1,8 @@
 -- What the first program prints of a job text (document 01, 'A job in full'): 'comments after `c `, header (variables, clauses), clauses'.
-use Rattle.std.specs.Prelude.{◌≡◌, cond, List, [], ◌++◌, ℕ, ◌+◌, ◌*◌, ◌/◌, min, eqb, length}
+use Rattle.std.specs.Prelude.{◌≡◌, cond, List, [], ◌++◌, ℕ, ◌+◌, ◌*◌, ◌/◌, min, eqb, length, Option, Some, None, Result, Ok, Err}
 use Rattle.lists.specs.Writing.{write}
 use Rattle.job.specs.declared.Job.{Job}
+use Rattle.job.specs.declared.refusal.Refusal.{Refusal}
 use Rattle.job.specs.Answers.{Answer, gives, refuses}
 use Rattle.job.specs.Limits.{max_text}
 use Rattle.job.specs.Literals.{Clause}
@@ -13,7 +14,9 @@ use Rattle.text.specs.Comments.{comments}
 use Rattle.text.specs.Dimacs.{number_room, numbers_text}
 use Rattle.text.specs.Lines.{line_room, header}
 use Rattle.outputs.specs.declared.dimacs.Piece.{Piece}
-use Rattle.outputs.specs.Printing.{or_refusal}
+use Rattle.outputs.specs.declared.dimacs.Following.{Following}
+use Rattle.outputs.specs.declared.dimacs.Begun.{Begun}
+use Rattle.outputs.specs.Printing.{or_refusal, Shows}
 
 -- a line for each clause: its numbers, and the 0 that closes it
 abbrev pub clause_text : List Clause → List ℕ
@@ -30,6 +33,16 @@ dimacs text =
 
 -- ---- the same in parts, since the whole may have fifty million bytes
 
+-- what follows is told by the job: its table, and how many clauses it has; nothing behind a refusal
+abbrev pub Follows : Answer (Unit {0}) → Job → Option Following → Type 0
+Follows (gives _) J (Some f) = (f.fit.job ≡ J) × (f.clauses ≡ length (clauses J))
+Follows (gives _) J None = ⊥
+Follows (refuses number place) J (Some f) = ⊥
+Follows (refuses number place) J None = Unit {0}
+
+abbrev pub IsFollowing : List ℕ → Option Following → Type 0
+IsFollowing text following = Follows (read_job text).answer (read_job text).table following
+
 -- what is printed first: comments and header, or a refusal
 unfoldable pub opened : List ℕ → List ℕ
 opened text = or_refusal (read_job text).answer λ _. before text (read_job text).table
@@ -45,6 +58,11 @@ behind (refuses number place) cs = []
 
 unfoldable pub following : List ℕ → List Clause
 following text = behind (read_job text).answer (clauses (read_job text).table)
+
+-- the opening that is made of a text, with what follows it; or a refusal
+abbrev pub Opens : List ℕ → Result Begun Refusal → List ℕ → List ℕ → Type 0
+Opens text (Ok begun) old new = Shows (opened text) (Ok begun.length) old new × IsFollowing text (Some begun.following)
+Opens text (Err r) old new = Shows (opened text) (Err r) old new × IsFollowing text None
 
 -- the most numbers of a piece
 abbrev pub piece_numbers : ℕ

@@ -10,7 +10,8 @@ use Rattle.parse.specs.Reading.{read_job}
 use Rattle.reply.specs.Check.{Outcome, accepted, refused, checked}
 use Rattle.readoff.specs.ReadingOff.{reading_off}
 use Rattle.text.specs.RunText.{run_line_room, run_line}
-use Rattle.outputs.specs.Printing.{refusal_text, or_refusal, zeros}
+use Rattle.text.specs.Lines.{refusal_line}
+use Rattle.outputs.specs.Printing.{or_refusal, zeros}
 
 -- 52: 'N or reply over 32,768'
 abbrev pub max_shown : ℕ
@@ -28,11 +29,11 @@ run_text J values =
 
 abbrev pub checked_text : Job → Outcome → List ℕ
 checked_text J (accepted values) = run_text J values
-checked_text J (refused number place values) = refusal_text number place
+checked_text J (refused number place values) = refusal_line number place
 
 unfoldable pub reply_text : Job → List ℕ → List ℕ
 reply_text J reply =
-    cond (ltb max_shown (total J.program) || ltb max_shown (length reply)) (refusal_text 52 0)
+    cond (ltb max_shown (total J.program) || ltb max_shown (length reply)) (refusal_line 52 0)
     (checked_text J (checked J reply (zeros max_shown)))
 
 unfoldable pub shown : List ℕ → List ℕ → List ℕ

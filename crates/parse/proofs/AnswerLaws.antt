@@ -1,52 +1,29 @@
--- Laws of the answers: what is read so far goes on, or is refused; a test chooses.
-use mathlib.Core.Path.{◌≡◌, refl, sym, ap, ◌∙◌, subst}
-use mathlib.Core.Bool.{Bool, true, false}
-use Rattle.job.specs.declared.Job.{Job}
-use Rattle.job.specs.declared.Refusal.{Refusal}
-use Rattle.parse.specs.Answers.{deny, by, then, pick}
-use Rattle.parse.specs.declared.Verdict.{Verdict}
-use Rattle.parse.specs.declared.Verdict.TheVariants.{Accepted, Refused}
-use Rattle.parse.specs.declared.Reading.{Reading}
+-- What holds of a result that is accepted.
+use mathlib.Core.Path.{◌≡◌, refl, subst}
+use mathlib.Core.Bool.{Bool, true, false, cond}
+use Rattle.std.specs.Prelude.{Result, Ok, Err}
+use Rattle.job.specs.declared.refusal.Refusal.{Refusal}
+use Rattle.parse.specs.Answers.{then}
 
-pub picked : (b : Bool) (x y : Reading) → b ≡ true → x ≡ pick b x y
-picked b x y e = ap (λ (z : Bool). pick z x y) (sym e)
+abbrev pub Holds : {T : Type 0} → (T → Type 0) → Result T Refusal → Type 0
+Holds I (Ok x) = I x
+Holds I (Err r) = Unit {0}
 
-pub passed : (b : Bool) (x y : Reading) → b ≡ false → y ≡ pick b x y
-passed b x y e = ap (λ (z : Bool). pick z x y) (sym e)
+module _ {T : Type 0} (I : T → Type 0) where
+  pub cond_holds : (b : Bool) (x y : Result T Refusal) → (b ≡ true → Holds I x) → (b ≡ false → Holds I y) → Holds I (cond b x y)
+  cond_holds true x y h k = h refl
+  cond_holds false x y h k = k refl
 
-module _ (r r' : Reading) (rest : Job → Reading) (e : r ≡ r') where
-  pub goes_on : r.verdict ≡ Accepted → rest r.job ≡ then r' rest
-  unfolding by
-  goes_on h = ap (λ (v : Verdict). by v r.job rest) (sym h) ∙ ap (λ (x : Reading). then x rest) e
+  pub then_holds : {S : Type 0} (J : S → Type 0) (r : Result S Refusal) (rest : S → Result T Refusal) → Holds J r
+      → ((x : S) → J x → Holds I (rest x)) → Holds I (then r rest)
+  unfolding then
+  then_holds J (Ok x) rest h k = k x h
+  then_holds J (Err r) rest h k = tt
 
-  pub ends_here : (q : Refusal) → r.verdict ≡ Refused q → deny r.verdict ≡ then r' rest
-  unfolding by
-  ends_here q h =
-      ap deny h ∙ ap (λ (v : Verdict). by v r.job rest) (sym h) ∙ ap (λ (x : Reading). then x rest) e
+  pub holds_of : (r : Result T Refusal) (x : T) → Holds I r → r ≡ Ok x → I x
+  holds_of r x h e = subst (λ (v : Result T Refusal). Holds I v) e h
 
--- ---- what holds of a table that is accepted
-
-abbrev pub Kept : (Job → Type 0) → Verdict → Job → Type 0
-Kept I Accepted j = I j
-Kept I (Refused r) j = Unit {0}
-
-abbrev pub Holds : (Job → Type 0) → Reading → Type 0
-Holds I r = Kept I r.verdict r.job
-
-module _ (I : Job → Type 0) where
-  pub pick_holds : (b : Bool) (x y : Reading) → (b ≡ true → Holds I x) → (b ≡ false → Holds I y) → Holds I (pick b x y)
-  pick_holds true x y h k = h refl
-  pick_holds false x y h k = k refl
-
-  pub then_holds : (J : Job → Type 0) (r : Reading) (rest : Job → Reading) → Holds J r → ((j : Job) → J j → Holds I (rest j))
-      → Holds I (then r rest)
-  unfolding by
-  then_holds J r rest h k = go r.verdict r.job h
-    where
-      go : (v : Verdict) (j : Job) → Kept J v j → Kept I (by v j rest).verdict (by v j rest).job
-      go Accepted j h = k j h
-      go (Refused q) j h = tt
-
-  -- a table that is accepted
-  pub holds_of : (r : Reading) → Holds I r → r.verdict ≡ Accepted → I r.job
-  holds_of r h e = subst (λ (v : Verdict). Kept I v r.job) e h
+-- what is read so far goes on
+pub goes_on : {S T : Type 0} (r : Result S Refusal) (rest : S → Result T Refusal) (x : S) → r ≡ Ok x → then r rest ≡ rest x
+unfolding then
+goes_on r rest x e = rw e

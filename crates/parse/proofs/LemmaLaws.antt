@@ -2,6 +2,7 @@
 use mathlib.Core.Path.{◌≡◌, refl, sym, ap, ◌∙◌, subst}
 use mathlib.Core.Bool.{Bool, true, false, cond, and-true}
 use mathlib.Core.List.{List, [], ◌∷◌}
+use Rattle.std.specs.Prelude.{Option, Some, None, Result, Ok, Err}
 use Prim.Native.Nat.{ℕ, suc, ◌+◌, ◌-◌, ◌≤◌, ◌<◌}
 use native.Mathlib.Omega.{arith}
 use native.Mathlib.Decide.{dec_lt}
@@ -17,27 +18,22 @@ use Rattle.lists.proofs.PieceLaws.{length_up_to, take_up_to, drop_up_to, cut_all
 use Rattle.job.specs.Limits.{max_steps, max_lemmas, max_names}
 use Rattle.job.specs.declared.Program.{Program}
 use Rattle.job.specs.declared.Job.{Job}
+use Rattle.job.specs.declared.refusal.Fault.{Fault}
+use Rattle.job.specs.declared.refusal.Fault.TheVariants.{LemmaEmpty, NameUnknown, ManyNames}
+use Rattle.job.specs.declared.refusal.Refusal.{Refusal}
 use Rattle.scan.specs.Bytes.{word_at}
 use Rattle.scan.specs.Lines.{Row, row, lines}
 use Rattle.scan.specs.Names.{lookup}
-use Rattle.scan.specs.declared.Found.{Found}
-use Rattle.scan.specs.declared.Found.TheVariants.{At, Nothing}
 use Rattle.scan.proofs.NameLaws.{lookup_below}
 use Rattle.scan.proofs.WordLaws.{word_fits}
 use Rattle.scan.proofs.LineLaws.{lines_at}
-use Rattle.fields.specs.Fields.{number_of, whole_line}
-use Rattle.fields.specs.declared.Field.{Field}
-use Rattle.fields.specs.declared.Field.TheVariants.{Read, No}
-use Rattle.items.specs.Items.{pick_named, named_at, named_in, item_field}
+use Rattle.fields.specs.Fields.{whole_line}
+use Rattle.items.specs.Items.{named_at, named_in, known_in, item_field}
 use Rattle.items.specs.declared.Name.{Name}
-use Rattle.items.specs.declared.Named.{Named}
-use Rattle.items.specs.declared.Named.TheVariants.{Item, Unknown}
-use Rattle.items.proofs.ItemLaws.{in_limits}
-use Rattle.parse.specs.Answers.{refuse, accept, then, by}
+use Rattle.parse.specs.Answers.{refuse, then}
 use Rattle.parse.specs.Lemmas.{word, filled, words, bare, negated, item_in, signed, with_item, closed, named, lemma}
 use Rattle.parse.specs.Lemmas.{whole, lemma_line, lemma_lines}
-use Rattle.parse.specs.declared.Reading.{Reading}
-use Rattle.parse.proofs.AnswerLaws.{Holds, pick_holds, then_holds}
+use Rattle.parse.proofs.AnswerLaws.{Holds, cond_holds, then_holds}
 
 -- ---- words
 
@@ -88,6 +84,11 @@ words_end s at h = ap words (drop_of_length-le s {i = at} h)
 
 -- ---- a name of a lemma
 
+-- a table within the limits knows its names
+in_limits : (j : Job) (w : List ℕ) → j.program.steps ≤ max_steps → j.program.variables ≤ max_steps
+    → known_in j.labels j.names j.program.steps j.program.variables w ≡ item_in j w
+in_limits j w h k = rw (le-leb j.program.steps max_steps h, le-leb j.program.variables max_steps k)
+
 -- the byte at at begins a word
 module _ (s : List ℕ) (at : ℕ) (l : at < length s) (k : num s at ≡ 32 → ⊥) where
   word_cons : word_at 32 s at ≡ num s at ∷ word_at 32 s (suc at)
@@ -125,7 +126,7 @@ module _ (s : List ℕ) (at : ℕ) (l : at < length s) (k : num s at ≡ 32 → 
       unfolding item_field
       name_is m n =
           ap (λ (y : Name). y.named) e
-          ∙ in_limits j.labels j.names j.program.steps j.program.variables (word_at 32 s from) m n
+          ∙ in_limits j (word_at 32 s from) m n
           ∙ ap (named_in j.labels j.names j.program.steps j.program.variables) bare_word
 
       pub name_end : r.at.column ≡ at + length (word_at 32 s at)
@@ -133,9 +134,9 @@ module _ (s : List ℕ) (at : ℕ) (l : at < length s) (k : num s at ≡ 32 → 
       name_end = ap (λ (y : Name). y.at.column) e ∙ bare_end
 
 -- an item that is named is one of w
-abbrev pub OneOf : ℕ → Named → Type 0
-OneOf w (Item i) = (0 < i) × (i ≤ w)
-OneOf w Unknown = Unit {0}
+abbrev pub OneOf : ℕ → Option ℕ → Type 0
+OneOf w (Some i) = (0 < i) × (i ≤ w)
+OneOf w None = Unit {0}
 
 pub item_one : (j : Job) (w : List ℕ) → OneOf (j.program.steps + j.program.variables) (item_in j w)
 unfolding named_in
@@ -145,52 +146,43 @@ item_one j w =
     go m n (within 1 4 (length w)) (lookup j.labels m w) (lookup j.names n w)
     (lookup_below j.labels m w) (lookup_below j.names n w)
   where
-    go : (m n : ℕ) (b : Bool) (f g : Found) → ((i : ℕ) → f ≡ At i → i < m) → ((i : ℕ) → g ≡ At i → i < n)
-        → OneOf (m + n) (pick_named b (named_at f g m) Unknown)
+    go : (m n : ℕ) (b : Bool) (f g : Option ℕ) → ((i : ℕ) → f ≡ Some i → i < m) → ((i : ℕ) → g ≡ Some i → i < n)
+        → OneOf (m + n) (cond b (named_at f g m) None)
     go m n false f g p q = tt
-    go m n true (At i) g p q = (omega arith, omega (arith, p i refl))
-    go m n true Nothing (At i) p q = (omega arith, omega (arith, q i refl))
-    go m n true Nothing Nothing p q = tt
+    go m n true (Some i) g p q = (omega arith, omega (arith, p i refl))
+    go m n true None (Some i) p q = (omega arith, omega (arith, q i refl))
+    go m n true None None p q = tt
 
-pub item_within : (j : Job) (w : List ℕ) (i : ℕ) → item_in j w ≡ Item i → (0 < i) × (i ≤ j.program.steps + j.program.variables)
+pub item_within : (j : Job) (w : List ℕ) (i : ℕ) → item_in j w ≡ Some i → (0 < i) × (i ≤ j.program.steps + j.program.variables)
 item_within j w i e = subst (OneOf (j.program.steps + j.program.variables)) e (item_one j w)
 
 -- ---- a lemma, name by name
 
 module _ (j : Job) (n k : ℕ) (w : List ℕ) (ws : List (List ℕ)) where
-  pub lemma_44 : max_names ≤ k → refuse 44 n ≡ lemma j n k (w ∷ ws)
-  unfolding lemma by
+  pub lemma_44 : max_names ≤ k → refuse ManyNames n ≡ lemma j n k (w ∷ ws)
+  unfolding lemma then
   lemma_44 h = rw (le-leb max_names k h)
 
-  pub lemma_43 : k < max_names → item_in j (bare w) ≡ Unknown → refuse 43 n ≡ lemma j n k (w ∷ ws)
-  unfolding lemma by named
+  pub lemma_43 : k < max_names → item_in j (bare w) ≡ None → refuse NameUnknown n ≡ lemma j n k (w ∷ ws)
+  unfolding lemma then named
   lemma_43 h e = rw (lt-leb max_names k h, e)
 
-  pub lemma_on : (i : ℕ) → k < max_names → item_in j (bare w) ≡ Item i
+  pub lemma_on : (i : ℕ) → k < max_names → item_in j (bare w) ≡ Some i
       → lemma j n k (w ∷ ws) ≡ lemma (with_item j k (signed (negated w) i)) n (k + 1) ws
-  unfolding lemma by named
+  unfolding lemma then named
   lemma_on i h e = rw (lt-leb max_names k h, e)
 
-pub lemma_42 : (j : Job) (n : ℕ) → refuse 42 n ≡ lemma j n 0 []
+pub lemma_42 : (j : Job) (n : ℕ) → refuse LemmaEmpty n ≡ lemma j n 0 []
 unfolding lemma
 lemma_42 j n = refl
 
-pub lemma_done : (j : Job) (n k : ℕ) → (k ≡ 0 → ⊥) → accept (closed j k) ≡ lemma j n k []
+pub lemma_done : (j : Job) (n k : ℕ) → (k ≡ 0 → ⊥) → Ok (closed j k) ≡ lemma j n k []
 unfolding lemma
 lemma_done j n k h = rw (ne_eqb k 0 h)
 
 -- ---- a lemma line, and all
 
-module _ (f f' : Field) (n : ℕ) (rest : Reading) (e : f ≡ f') where
-  pub is_whole : f ≡ Read → rest ≡ whole f' n rest
-  unfolding whole
-  is_whole r = ap (λ (x : Field). whole x n rest) (sym r ∙ e)
-
-  pub no_line : (k r : ℕ) → f ≡ No k → r ≡ number_of f → refuse r n ≡ whole f' n rest
-  unfolding whole
-  no_line k r g h = ap (λ (x : ℕ). refuse x n) (h ∙ ap number_of g) ∙ ap (λ (x : Field). whole x n rest) (sym g ∙ e)
-
-pub lines_none : (j : Job) (n : ℕ) → lemma_lines j n [] ≡ accept j
+pub lines_none : (j : Job) (n : ℕ) → lemma_lines j n [] ≡ Ok j
 unfolding lemma_lines
 lines_none j n = refl
 
@@ -207,25 +199,25 @@ module _ (P : Program) where
   abbrev Same : Job → Type 0
   Same x = x.program ≡ P
 
-  whole_same : (f : Field) (n : ℕ) (r : Reading) → Holds Same r → Holds Same (whole f n r)
+  whole_same : (f : Result (Unit {0}) Fault) (n : ℕ) (r : Result Job Refusal) → Holds Same r → Holds Same (whole f n r)
   unfolding whole
-  whole_same Read n r h = h
-  whole_same (No k) n r h = tt
+  whole_same (Ok _) n r h = h
+  whole_same (Err fault) n r h = tt
 
-  named_same : (j : Job) (n k : ℕ) (negative : Bool) (x : Named) → j.program ≡ P → Holds Same (named j n k negative x)
+  named_same : (j : Job) (n k : ℕ) (negative : Bool) (x : Option ℕ) → j.program ≡ P → Holds Same (named j n k negative x)
   unfolding named
-  named_same j n k negative (Item i) e = e
-  named_same j n k negative Unknown e = tt
+  named_same j n k negative (Some i) e = e
+  named_same j n k negative None e = tt
 
   lemma_same : (j : Job) (n k : ℕ) (ws : List (List ℕ)) → j.program ≡ P → Holds Same (lemma j n k ws)
   unfolding lemma
-  lemma_same j n k [] e = pick_holds Same (eqb k 0) _ _ (λ _. tt) (λ _. e)
+  lemma_same j n k [] e = cond_holds Same (eqb k 0) _ _ (λ _. tt) (λ _. e)
   lemma_same j n k (w ∷ ws) e =
       then_holds Same Same _ _
-      (pick_holds Same (leb max_names k) _ _ (λ _. tt) (λ _. named_same j n k (negated w) (item_in j (bare w)) e))
+      (cond_holds Same (leb max_names k) _ _ (λ _. tt) (λ _. named_same j n k (negated w) (item_in j (bare w)) e))
       (λ x h. lemma_same x n (k + 1) ws h)
 
   pub line_same : (j : Job) (l : Row) (n : ℕ) → j.program ≡ P → Holds Same (lemma_line j l n)
   unfolding lemma_line
   line_same j l n e =
-      whole_same (whole_line l) n _ (pick_holds Same (leb max_lemmas j.lemmas) _ _ (λ _. tt) (λ _. lemma_same j n 0 (words l.bytes) e))
+      whole_same (whole_line l) n _ (cond_holds Same (leb max_lemmas j.lemmas) _ _ (λ _. tt) (λ _. lemma_same j n 0 (words l.bytes) e))

@@ -1,7 +1,8 @@
 -- A program whose labels are linked, of a draft that is fit so far, is fit.
 use mathlib.Core.Path.{◌≡◌, refl, sym, ap, ◌∙◌, subst}
-use mathlib.Core.Bool.{Bool, true, false, not, cond}
+use mathlib.Core.Bool.{true, false, not, cond}
 use mathlib.Core.List.{List}
+use Rattle.std.specs.Prelude.{Result, Ok, Err}
 use Prim.Native.Nat.{ℕ, zero, suc, ◌+◌, ◌*◌, ◌≤◌, ◌<◌}
 use native.Mathlib.Omega.{arith}
 use native.Mathlib.Decide.{ℕ_discrete, dec_lt}
@@ -16,39 +17,13 @@ use Rattle.job.specs.Fitness.{larger, has_other, is_step, other_fits, variable_f
 use Rattle.job.specs.Fitness.{unused_step, mentioned, step_fits, steps_fit, both_start, both_critical, program_fits}
 use Rattle.job.specs.Table.{first_of}
 use Rattle.job.specs.declared.Program.{Program}
+use Rattle.job.specs.declared.refusal.Fault.{Fault}
 use Rattle.program.specs.declared.Draft.{Draft}
 use Rattle.program.proofs.PutLaws.{Put, put_set}
 use Rattle.program.proofs.DraftFits.{Drafted, mentioned_same, larger_first}
-use Rattle.parse.specs.Labels.{aim, enter_to, enter_other, on, then_link, pick_linked, link_step, link}
-use Rattle.parse.specs.declared.Verdict.{Verdict}
-use Rattle.parse.specs.declared.Verdict.TheVariants.{Accepted, Refused}
-use Rattle.parse.specs.declared.Target.{Target}
-use Rattle.parse.specs.declared.Target.TheVariants.{Step, No}
-use Rattle.parse.specs.declared.Linked.{Linked}
+use Rattle.parse.specs.Labels.{aim, enter_to, enter_other, link_step, link}
+use Rattle.parse.proofs.AnswerLaws.{Holds, cond_holds, then_holds}
 use Rattle.parse.proofs.LabelLaws.{Steady, target_is}
-
--- ---- what holds of a program that is linked so far
-
-abbrev pub Kept : (Program → Type 0) → Verdict → Program → Type 0
-Kept I Accepted Q = I Q
-Kept I (Refused r) Q = Unit {0}
-
-abbrev Holds : (Program → Type 0) → Linked → Type 0
-Holds I l = Kept I l.verdict l.program
-
-then_holds : (I J : Program → Type 0) (l : Linked) (rest : Program → Linked) → Holds J l → ((Q : Program) → J Q → Holds I (rest Q))
-    → Holds I (then_link l rest)
-unfolding on
-then_holds I J l rest h k = go l.verdict l.program h
-  where
-    go : (v : Verdict) (Q : Program) → Kept J v Q → Kept I (on v Q rest).verdict (on v Q rest).program
-    go Accepted Q g = k Q g
-    go (Refused r) Q g = tt
-
-pick_holds : (I : Program → Type 0) (b : Bool) (x y : Linked) → (b ≡ true → Holds I x) → (b ≡ false → Holds I y)
-    → Holds I (pick_linked b x y)
-pick_holds I true x y h k = h refl
-pick_holds I false x y h k = k refl
 
 -- ---- the labels of the first k steps of P are steps, and those of the others 0
 
@@ -74,7 +49,7 @@ module _ (d : Draft) (D : Drafted d.program) where
   abbrev P : Program
   P = d.program
 
-  aim_step : (labels : List ℕ) (k i : ℕ) → aim d labels k ≡ Step i → is_step P k i ≡ true
+  aim_step : (labels : List ℕ) (k i : ℕ) → aim d labels k ≡ Ok i → is_step P k i ≡ true
   unfolding aim is_step
   aim_step labels k i e =
       let (a, b, c) = target_is P.process d.labels P.steps k (slice (k * 4) (k * 4 + 4) labels) i e in
@@ -85,9 +60,9 @@ module _ (d : Draft) (D : Drafted d.program) where
   unfolding enter_to
   to_linked Q k place l h = go (aim d d.to k) refl
     where
-      go : (t : Target) → aim d d.to k ≡ t → Holds (λ R. Half P k R.to R.other) (enter_to Q k place t)
-      go (No n) e = tt
-      go (Step i) e =
+      go : (t : Result ℕ Fault) → aim d d.to k ≡ t → Holds (λ R. Half P k R.to R.other) (enter_to Q k place t)
+      go (Err fault) e = tt
+      go (Ok i) e =
           let p = put_set Q.to k i (omega (arith, h.to_size)) in
           record {
             to_size = p.0 ∙ h.to_size;
@@ -103,9 +78,9 @@ module _ (d : Draft) (D : Drafted d.program) where
   unfolding enter_other
   other_linked Q k place l f h = go (aim d d.other k) refl
     where
-      go : (t : Target) → aim d d.other k ≡ t → Holds (λ R. Linking P (suc k) R.to R.other) (enter_other Q k place t)
-      go (No n) e = tt
-      go (Step i) e =
+      go : (t : Result ℕ Fault) → aim d d.other k ≡ t → Holds (λ R. Linking P (suc k) R.to R.other) (enter_other Q k place t)
+      go (Err fault) e = tt
+      go (Ok i) e =
           let p = put_set Q.other k i (omega (arith, h.other_size)) in
           record {
             to_size = h.to_size;
@@ -148,24 +123,13 @@ module _ (d : Draft) (D : Drafted d.program) where
       then_holds (λ Q. Linking P (suc k) Q.to Q.other) (λ Q. Linking P k Q.to Q.other) (link d k) _
       (link_linked k (omega arith)) λ Q h.
       then_holds (λ Q. Linking P (suc k) Q.to Q.other) (λ R. Half P k R.to R.other) _ _ (to_linked Q k _ (omega arith) h) λ R g.
-      pick_holds (λ Q. Linking P (suc k) Q.to Q.other) (has_other (num P.kind k)) _ _ (λ f. other_linked R k _ (omega arith) f g)
+      cond_holds (λ Q. Linking P (suc k) Q.to Q.other) (has_other (num P.kind k)) _ _ (λ f. other_linked R k _ (omega arith) f g)
       (λ f. none_linked R k f g)
 
 -- ---- the program
 
 abbrev relinked : Program → List ℕ → List ℕ → Program
-relinked P t o = record {
-  bound = P.bound;
-  word = P.word;
-  steps = P.steps;
-  variables = P.variables;
-  process = P.process;
-  kind = P.kind;
-  to = t;
-  other = o;
-  variable = P.variable;
-  value = P.value;
-}
+relinked P t o = record P { to = t; other = o }
 
 pub steady_is : (P Q : Program) → Steady P Q → relinked P Q.to Q.other ≡ Q
 steady_is P Q s = rw (← s.0, ← s.1, ← s.2, ← s.3, ← s.4, ← s.5, ← s.6, ← s.7)

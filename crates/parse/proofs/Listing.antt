@@ -21,23 +21,23 @@ use Rattle.lines.specs.StepLine as step_line
 use Rattle.program.specs.Draft as draft
 use Rattle.program.specs.ProgramLine as program_line_lem
 use Rattle.program.specs.Program as program
-use Rattle.parse.specs.Answers.{without_lemmas, by}
+use Rattle.parse.specs.Answers.{table_of, without_lemmas, then}
 use Rattle.parse.specs.Labels as labels
 use Rattle.parse.specs.Lemmas.{lemma_lines}
 use Rattle.parse.specs.Reading.{from_lemmas, reading}
 use Rattle.parse.proofs.Examples.{bytes, one_bit}
 
-listed : map (map signed) (clauses.clauses (reading (bytes one_bit)).job) ≡ listing.clauses
+listed : map (map signed) (clauses.clauses (table_of (reading (bytes one_bit)))) ≡ listing.clauses
 unfolding bytes every all within each passing first both_critical cut up_to all_of starts is alnum headed rows lines entry_is lookup
     word_field fixed_field bit_field range_field end_field bound_end_field whole_line
-    first-line.first_line first-line.number_at first-line.value_of first-line.word_of first-line.then
+    first-line.first_line first-line.number_at first-line.value_of first-line.word_of first-line.after
     step_line.fresh step_line.bit_of step_line.else_line step_line.end_line step_line.goto_line step_line.test_line step_line.kind_line
-    step_line.step_line step_line.then
+    step_line.step_line
     draft.blank draft.mention_at draft.process_of draft.other_end draft.enter draft.add_step
-    program_line_lem.is_lemmas program_line_lem.is_comment program_line_lem.stepped program_line_lem.program_line program_line_lem.pick
+    program_line_lem.is_lemmas program_line_lem.is_comment program_line_lem.stepped program_line_lem.program_line
     program_line_lem.whole
     program.follow program.program program.opened program.from_line1 program.program_of program.whole
-    without_lemmas by labels.target_of labels.aim labels.enter_to labels.enter_other labels.on labels.link_step labels.link labels.started
+    without_lemmas then labels.target_of labels.aim labels.enter_to labels.enter_other labels.link_step labels.link labels.started
     labels.at_lemmas lemma_lines from_lemmas reading
     exclusion.exclusion exclusion.excluding numbering.helpers_for numbering.pairs_below numbering.helpers numbering.item numbering.turn
     numbering.helper numbering.difference table.action_of table.process table.action table.own_below table.first_of table.lemma

@@ -1,20 +1,15 @@
 -- The answers of reading: 'a refused job gives one of zeros; every other job is accepted' (document 01, 'Calls and buffers').
-use Rattle.std.specs.Prelude.{ℕ, ◌*◌, Bool, true, false, pos, replicate}
+use Rattle.std.specs.Prelude.{ℕ, ◌*◌, pos, replicate, Result, Ok, Err}
 use Rattle.job.specs.Limits.{max_lemmas, max_names}
 use Rattle.job.specs.Words.{no_word}
 use Rattle.job.specs.Answers.{Answer, gives, refuses}
+use Rattle.job.specs.Faults.{refusal_at}
 use Rattle.job.specs.declared.Job.{Job}
 use Rattle.job.specs.declared.Program.{Program}
+use Rattle.job.specs.declared.refusal.Fault.{Fault}
+use Rattle.job.specs.declared.refusal.Refusal.{Refusal}
 use Rattle.program.specs.Draft.{blank}
 use Rattle.program.specs.declared.Draft.{Draft}
-use Rattle.parse.specs.declared.Verdict.{Verdict}
-use Rattle.parse.specs.declared.Verdict.TheVariants.{Accepted, Refused}
-use Rattle.parse.specs.declared.Reading.{Reading}
-
--- acceptance, or number and place of a refusal
-abbrev pub answer_of : Verdict → Answer (Unit {0})
-answer_of Accepted = gives tt
-answer_of (Refused r) = refuses r.number r.place
 
 -- no lemma yet: the draft's names with a program
 unfoldable pub without_lemmas : Draft → Program → Job
@@ -31,27 +26,20 @@ without_lemmas d P = record {
 abbrev pub zeros : Job
 zeros = without_lemmas (blank 0 no_word) (blank 0 no_word).program
 
--- a refusal with its number and place
-abbrev pub refusal : ℕ → ℕ → Verdict
-refusal number place = Refused (record { number = number; place = place })
+-- the table that is given: that of a job that is accepted, or the one of zeros
+abbrev pub table_of : Result Job Refusal → Job
+table_of (Ok j) = j
+table_of (Err r) = zeros
 
-abbrev pub deny : Verdict → Reading
-deny v = record { verdict = v; job = zeros }
+-- the answer without the table
+abbrev pub forgotten : {T : Type 0} → Answer T → Answer (Unit {0})
+forgotten (gives x) = gives tt
+forgotten (refuses number place) = refuses number place
 
-abbrev pub refuse : ℕ → ℕ → Reading
-refuse number place = deny (refusal number place)
-
-abbrev pub accept : Job → Reading
-accept j = record { verdict = Accepted; job = j }
+abbrev pub refuse : {T : Type 0} → Fault → ℕ → Result T Refusal
+refuse fault place = Err (refusal_at fault place)
 
 -- what is read so far goes on, or is refused
-unfoldable pub by : Verdict → Job → (Job → Reading) → Reading
-by Accepted j rest = rest j
-by (Refused r) j rest = deny (Refused r)
-
-abbrev pub then : Reading → (Job → Reading) → Reading
-then r rest = by r.verdict r.job rest
-
-abbrev pub pick : Bool → Reading → Reading → Reading
-pick true a b = a
-pick false a b = b
+unfoldable pub then : {S T : Type 0} → Result S Refusal → (S → Result T Refusal) → Result T Refusal
+then (Ok x) rest = rest x
+then (Err r) rest = Err r

@@ -1,263 +1,150 @@
 // Reading a job text: its program, the checks at `lemmas`, and its lemmas.
 #![tactic(auto)]
 
-ghost use Rattle.std.specs.Prelude.{◌≡◌, ◌+◌, ◌*◌, ◌<◌, ◌≤◌, cond, ◌&&◌, [], eqb, leb, length, drop};
-ghost use Rattle.std.proofs.Math.Seq.{slice};
+ghost use Rattle.std.specs.Prelude.{◌≡◌, ◌+◌, ◌*◌, ◌<◌, ◌≤◌, cond, ◌&&◌, IfOk, Ok, [], eqb, leb, length, drop};
 ghost use Rattle.lists.specs.Rows.{num};
+ghost use Rattle.job.specs.Answers.{answer_of};
 ghost use Rattle.job.specs.Limits.{max_steps, max_lemmas, max_names, max_text};
-ghost use Rattle.job.specs.Words.{start as start_word};
+ghost use Rattle.job.specs.Fitness.{both_critical};
+ghost use Rattle.job.specs.Table.{first_of};
 ghost use Rattle.scan.specs.Lines.{row, lines};
-ghost use Rattle.scan.specs.Names.{lookup};
-ghost use Rattle.parse.specs.Answers.{answer_of, refusal as refusal_of, deny, without_lemmas};
-ghost use Rattle.parse.specs.Labels.{number_of, target_of, aim as aim_of, enter_to, enter_other, link_step, link as link_all, at_lemmas};
+ghost use Rattle.program.specs.Program.{program_of};
+ghost use Rattle.parse.specs.Answers.{forgotten, table_of, without_lemmas};
+ghost use Rattle.parse.specs.Labels.{aim as aim_of, enter_to, enter_other, link_step, link as link_all, at_lemmas};
 ghost use Rattle.parse.specs.Lemmas.{signed as signed_item, words, lemma, lemma_line, lemma_lines};
-ghost use Rattle.parse.specs.Reading.{stop, read_job};
+ghost use Rattle.parse.specs.Reading.{from_lemmas, reading, read_job};
 
-use fields::Field;
-use items::Named;
-use job::{Job, Program, Refusal};
-use program::{Draft, End};
-use scan::Found;
+use fields::Cursor;
+use job::{Fault, Job, Kind, Program, Refusal, Word};
+use program::{Draft, ProgramPart};
 
-#[derive(Clone, Copy)]
-pub enum Verdict {
-    Accepted,
-    Refused(Refusal),
-}
-
-// The answer of reading: a refused job gives the table of zeros.
-#[derive(Clone, Copy)]
-pub struct Reading {
-    pub verdict: Verdict,
-    pub job: Job,
-}
-
-// The numbers of document 01 that a job has besides those of its program.
-impl Reading {
-    pub const LABEL_UNKNOWN: u8 = 30;
-
-    pub const LABEL_OTHER: u8 = 32;
-
-    pub const MANY_LEMMAS: u8 = 41;
-
-    pub const LEMMA_EMPTY: u8 = 42;
-
-    pub const NAME_UNKNOWN: u8 = 43;
-
-    pub const MANY_NAMES: u8 = 44;
-
-    pub const BOTH_CRITICAL: u8 = 55;
-
-    pub const NO_STEP_OF_B: u8 = 98;
-
-    pub const NO_STEP_OF_A: u8 = 99;
-}
-
-// What a label names: a step, counted from 1, or a number of document 01.
-#[derive(Clone, Copy)]
-pub enum Target {
-    Step(usize),
-    No(u8),
-}
-
-// A program whose labels are steps so far.
-#[derive(Clone, Copy)]
-pub struct Linked {
-    pub verdict: Verdict,
-    pub program: Program,
-}
-
-fn refusal(number: u8, place: usize) -> Verdict
-    ensures { result ≡ refusal_of number place }
+#[tactic(auto, unfolding(crate::specs::Answers::without_lemmas))]
+fn without_lemmas(draft: &Draft, program: Program) -> Job
+    ensures { result ≡ without_lemmas draft.now program }
 {
-    Verdict::Refused(Refusal { number, place })
-}
-
-fn without_lemmas(d: Draft, p: Program) -> Job
-    ensures { result ≡ without_lemmas d p }
-{
-    let labels = d.labels;
-    let names = d.names;
     Job {
-        program: p,
-        labels,
-        names,
+        program,
+        labels: draft.labels,
+        names: draft.names,
         lemmas: 0,
         lengths: [0; Job::LEMMAS],
         items: [0; Job::LEMMAS * Job::NAMES],
     }
 }
 
-// A refused job gives the table of zeros.
-fn denied(verdict: Verdict) -> Reading
-    ensures { result ≡ deny verdict }
+// The label of step k among names, looked up among the labels of the steps: a step, counted from 1.
+#[tactic(auto, unfolding(crate::specs::Labels::aim, crate::specs::Labels::target_of))]
+fn aim(draft: &Draft, names: &[u8; 4 * Job::STEPS], k: usize) -> Result<usize, Fault>
+    requires few { draft.now.program.steps ≤ max_steps }
+    requires step { k < max_steps }
+    ensures aimed { result ≡ aim_of draft.now names.now k }
+    ensures small { IfOk result (λ i. i ≤ max_steps) }
 {
-    let d = program::blank(0, Job::NO_WORD);
-    let job = without_lemmas(d, d.program);
-    Reading { verdict, job }
-}
-
-fn refused(number: u8, place: usize) -> Reading
-    ensures { result ≡ deny (refusal_of number place) }
-{
-    denied(refusal(number, place))
-}
-
-// The label of step k among names, looked up among the labels of the m steps.
-fn aim<'a>(
-    labels: &'a [u8; 4 * Job::STEPS],
-    process: &'a [u8; Job::STEPS],
-    names: &'a [u8; 4 * Job::STEPS],
-    m: usize,
-    k: usize,
-) -> Target
-    requires { (m ≤ max_steps) × (k < max_steps) }
-    ensures { result ≡ target_of process.now k (lookup labels.now m (slice (k * 4) (k * 4 + 4) names.now)) }
-{
-    let f = scan::find(labels, m, names, k * 4, k * 4 + 4);
-    let Found::At(i) = f else {
-        return Target::No(Reading::LABEL_UNKNOWN);
+    let label = scan::part(names, k * 4, k * 4 + 4);
+    let Some(i) = scan::find(&draft.labels, draft.program.steps, label) else {
+        return Err(Fault::LabelUnknown);
     };
-    if process[i] == process[k] {
-        Target::Step(i + 1)
+    if draft.program.process[i] == draft.program.process[k] {
+        Ok(i + 1)
     } else {
-        Target::No(Reading::LABEL_OTHER)
-    }
-}
-
-fn number(t: Target) -> u8
-    ensures { result ≡ number_of t }
-{
-    match t {
-        Target::Step(_) => 0,
-        Target::No(n) => n,
+        Err(Fault::LabelOther)
     }
 }
 
 // L of step k is entered.
-fn link_to(d: Draft, p: Program, k: usize) -> Linked
-    requires { (d.program.steps ≤ max_steps) × (k < max_steps) }
-    ensures { result ≡ enter_to p k (num d.line k) (aim_of d d.to k) }
+#[tactic(auto, unfolding(crate::specs::Labels::enter_to))]
+fn link_to(draft: &Draft, program: Program, k: usize) -> Result<Program, Refusal>
+    requires few { draft.now.program.steps ≤ max_steps }
+    requires step { k < max_steps }
+    ensures { result ≡ enter_to program k (num draft.now.line k) (aim_of draft.now draft.now.to k) }
 {
-    let own = d.program;
-    let t = aim(&d.labels, &own.process, &d.to, own.steps, k);
-    let Target::Step(i) = t else {
-        return Linked {
-            verdict: refusal(number(t), d.line[k]),
-            program: p,
-        };
-    };
-    let mut q = p;
-    q.to[k] = i as u16;
-    Linked {
-        verdict: Verdict::Accepted,
-        program: q,
+    match aim(draft, &draft.to, k) {
+        Ok(i) => {
+            let mut linked = program;
+            linked.to[k] = i as u16;
+            Ok(linked)
+        }
+        Err(fault) => Err(fault.at(draft.line[k])),
     }
 }
 
 // M of step k is entered.
-fn link_other(d: Draft, p: Program, k: usize) -> Linked
-    requires { (d.program.steps ≤ max_steps) × (k < max_steps) }
-    ensures { result ≡ enter_other p k (num d.line k) (aim_of d d.other k) }
+#[tactic(auto, unfolding(crate::specs::Labels::enter_other))]
+fn link_other(draft: &Draft, program: Program, k: usize) -> Result<Program, Refusal>
+    requires few { draft.now.program.steps ≤ max_steps }
+    requires step { k < max_steps }
+    ensures { result ≡ enter_other program k (num draft.now.line k) (aim_of draft.now draft.now.other k) }
 {
-    let own = d.program;
-    let t = aim(&d.labels, &own.process, &d.other, own.steps, k);
-    let Target::Step(i) = t else {
-        return Linked {
-            verdict: refusal(number(t), d.line[k]),
-            program: p,
-        };
-    };
-    let mut q = p;
-    q.other[k] = i as u16;
-    Linked {
-        verdict: Verdict::Accepted,
-        program: q,
+    match aim(draft, &draft.other, k) {
+        Ok(i) => {
+            let mut linked = program;
+            linked.other[k] = i as u16;
+            Ok(linked)
+        }
+        Err(fault) => Err(fault.at(draft.line[k])),
     }
 }
 
 // L and then, of an if, M of step k.
-fn link_step(d: Draft, p: Program, k: usize) -> Linked
-    requires { (d.program.steps ≤ max_steps) × (k < max_steps) }
-    ensures { result ≡ link_step d k p }
+#[tactic(auto, unfolding(crate::specs::Labels::link_step, crate::specs::Answers::then))]
+fn link_step(draft: &Draft, program: Program, k: usize) -> Result<Program, Refusal>
+    requires few { draft.now.program.steps ≤ max_steps }
+    requires step { k < max_steps }
+    ensures { result ≡ link_step draft.now k program }
 {
-    let l = link_to(d, p, k);
-    let v = l.verdict;
-    let Verdict::Accepted = v else {
-        return l;
-    };
-    let own = d.program;
-    if own.kind[k] == 4 {
-        return link_other(d, l.program, k);
+    let linked = link_to(draft, program, k)?;
+    if draft.program.kind[k] == Kind::If as u8 {
+        return link_other(draft, linked, k);
     }
-    l
+    Ok(linked)
 }
 
 // The labels of all steps, step by step.
-fn link(d: Draft) -> Linked
-    requires { d.program.steps ≤ max_steps }
-    ensures { result ≡ link_all d d.program.steps }
+fn link(draft: &Draft) -> Result<Program, Refusal>
+    requires { draft.now.program.steps ≤ max_steps }
+    ensures { result ≡ link_all draft.now draft.now.program.steps }
 {
-    let mut p = d.program;
-    let m = p.steps;
-    let mut k: usize = 0;
-    while k < m {
-        let l = link_step(d, p, k);
-        let v = l.verdict;
-        p = l.program;
-        let Verdict::Accepted = v else {
-            return Linked {
-                verdict: v,
-                program: p,
-            };
-        };
-        k += 1;
+    let mut program = draft.program;
+    for k in 0..draft.program.steps {
+        program = link_step(draft, program, k)?;
     }
-    Linked {
-        verdict: Verdict::Accepted,
-        program: p,
-    }
+    Ok(program)
 }
 
-// Both first steps critical, which only a word forbids.
-fn both_critical(word: u8, kind: &[u8; Job::STEPS], a: usize, b: usize) -> bool
-    requires { (a < max_steps) × (b < max_steps) }
-    ensures { result ≡ (leb start_word word && (eqb (num kind.now a) 2 && eqb (num kind.now b) 2)) }
+// Both first steps, a and b, critical, which only a word forbids.
+#[tactic(auto, unfolding(job::specs::Fitness::both_critical))]
+fn both_critical(program: &Program, a: usize, b: usize) -> bool
+    requires of_a { a ≡ first_of program.now 1 }
+    requires of_b { b ≡ first_of program.now 2 }
+    requires steps { (a < max_steps) × (b < max_steps) }
+    ensures { result ≡ both_critical program.now }
 {
-    if word < Job::START {
-        return false;
-    }
-    if kind[a] == 2 { kind[b] == 2 } else { false }
+    let kind = program.kind;
+    Word::Start as u8 <= program.word
+        && kind[a] == Kind::Critical as u8
+        && kind[b] == Kind::Critical as u8
 }
 
 // What is checked at line n, `lemmas`.
-fn at_lemmas(d: Draft, n: usize) -> Reading
-    requires { d.program.steps ≤ max_steps }
-    ensures { result ≡ at_lemmas d n }
+#[tactic(auto, unfolding(crate::specs::Labels::at_lemmas, crate::specs::Labels::started, crate::specs::Answers::then))]
+fn at_lemmas(draft: &Draft, n: usize) -> Result<Job, Refusal>
+    requires { draft.now.program.steps ≤ max_steps }
+    ensures { result ≡ at_lemmas draft.now n }
 {
-    let own = d.program;
-    let m = own.steps;
-    let a = fit::first_of(own, 1);
-    if m <= a {
-        return refused(Reading::NO_STEP_OF_A, n);
+    let steps = draft.program.steps;
+    let a = draft.program.first_of(1);
+    if steps <= a {
+        return Err(Fault::NoStepOfA.at(n));
     }
-    let b = fit::first_of(own, 2);
-    if m <= b {
-        return refused(Reading::NO_STEP_OF_B, n);
+    let b = draft.program.first_of(2);
+    if steps <= b {
+        return Err(Fault::NoStepOfB.at(n));
     }
-    let l = link(d);
-    let v = l.verdict;
-    let Verdict::Accepted = v else {
-        return denied(v);
-    };
-    if both_critical(own.word, &own.kind, a, b) {
-        return refused(Reading::BOTH_CRITICAL, n);
+    let program = link(draft)?;
+    if both_critical(&draft.program, a, b) {
+        return Err(Fault::BothCritical.at(n));
     }
-    let job = without_lemmas(d, l.program);
-    Reading {
-        verdict: Verdict::Accepted,
-        job,
-    }
+    Ok(without_lemmas(draft, program))
 }
 
 // Where the name of the word at at begins: behind its `~`.
@@ -268,134 +155,126 @@ fn bare_at(s: &[u8], at: usize) -> usize
     if s[at] == b'~' { at + 1 } else { at }
 }
 
-fn signed(neg: bool, i: usize) -> i16
+fn signed(negative: bool, i: usize) -> i16
     requires { i ≤ 2 * max_steps }
-    ensures { result ≡ signed_item neg i }
+    ensures { result ≡ signed_item negative i }
 {
-    if neg { -(i as i16) } else { i as i16 }
+    if negative { -(i as i16) } else { i as i16 }
 }
 
 // The line's end behind k names: 42, or the lemma is counted.
-fn lemma_end(start: Job, n: usize, k: usize) -> Reading
+#[tactic(auto, unfolding(crate::specs::Lemmas::lemma))]
+fn lemma_end(start: Job, n: usize, k: usize) -> Result<Job, Refusal>
     requires { (start.lemmas < max_lemmas) × (k ≤ max_names) }
     ensures { result ≡ lemma start n k [] }
 {
     if k == 0 {
-        return refused(Reading::LEMMA_EMPTY, n);
+        return Err(Fault::LemmaEmpty.at(n));
     }
-    let mut j = start;
-    let l = j.lemmas;
-    j.lengths[l] = k as u8;
-    j.lemmas = l + 1;
-    Reading {
-        verdict: Verdict::Accepted,
-        job: j,
-    }
+    let mut job = start;
+    job.lengths[job.lemmas] = k as u8;
+    job.lemmas += 1;
+    Ok(job)
 }
 
 // The lemma of line n, name by name.
-fn lemma_of(start: Job, s: &[u8], n: usize) -> Reading
-    requires { (start.lemmas < max_lemmas) × (start.program.steps ≤ max_steps) × (start.program.variables ≤ max_steps) }
+fn lemma_of(start: Job, s: &[u8], n: usize) -> Result<Job, Refusal>
+    requires room { start.lemmas < max_lemmas }
+    requires steps { start.program.steps ≤ max_steps }
+    requires variables { start.program.variables ≤ max_steps }
     ensures { result ≡ lemma start n 0 (words s.now) }
 {
-    let mut j = start;
+    let mut job = start;
     let mut k: usize = 0;
     let mut at: usize = 0;
+    // A while loop: it moves on by a space or by a name, whose length is found as it is read.
     while at < s.len() {
         if s[at] == b' ' {
             at += 1;
             continue;
         }
         if Job::NAMES <= k {
-            return refused(Reading::MANY_NAMES, n);
+            return Err(Fault::ManyNames.at(n));
         }
-        let from = bare_at(s, at);
-        let name = items::item_at(
-            &j.labels,
-            &j.names,
-            j.program.steps,
-            j.program.variables,
-            s,
-            n,
-            from,
-        );
-        let named = name.named;
-        let Named::Item(i) = named else {
-            return refused(Reading::NAME_UNKNOWN, n);
+        let mut cursor = Cursor {
+            line: n,
+            column: bare_at(s, at),
         };
-        let z = signed(s[at] == b'~', i);
-        let l = j.lemmas;
-        j.items[l * Job::NAMES + k] = z;
+        let Some(i) = items::read_item(&job, s, &mut cursor) else {
+            return Err(Fault::NameUnknown.at(n));
+        };
+        job.items[job.lemmas * Job::NAMES + k] = signed(s[at] == b'~', i);
         k += 1;
-        at = name.at.column;
+        at = cursor.column;
     }
-    lemma_end(j, n, k)
+    lemma_end(job, n, k)
 }
 
 // Line n behind `lemmas`, whose LF is there or not.
-fn lemma_line(j: Job, s: &[u8], ended: bool, n: usize) -> Reading
-    requires { (j.program.steps ≤ max_steps) × (j.program.variables ≤ max_steps) }
-    ensures { result ≡ lemma_line j (row s.now ended) n }
+#[tactic(auto, unfolding(crate::specs::Lemmas::lemma_line, crate::specs::Lemmas::whole))]
+fn lemma_line(job: Job, s: &[u8], ended: bool, n: usize) -> Result<Job, Refusal>
+    requires steps { job.program.steps ≤ max_steps }
+    requires variables { job.program.variables ≤ max_steps }
+    ensures { result ≡ lemma_line job (row s.now ended) n }
 {
-    let f = fields::line(s, ended);
-    let Field::Read = f else {
-        return refused(fields::number(f), n);
-    };
-    if Job::LEMMAS <= j.lemmas {
-        return refused(Reading::MANY_LEMMAS, n);
+    if let Err(fault) = fields::line(s, ended) {
+        return Err(fault.at(n));
     }
-    lemma_of(j, s, n)
+    if Job::LEMMAS <= job.lemmas {
+        return Err(Fault::ManyLemmas.at(n));
+    }
+    lemma_of(job, s, n)
 }
 
 // The lemma lines, which begin at from, behind before lines.
-fn lemma_lines(text: &[u8], from: usize, before: usize, start: Job) -> Reading
-    requires { (length text.now ≤ max_text) × (before ≤ from)
-        × (start.program.steps ≤ max_steps) × (start.program.variables ≤ max_steps) }
+fn lemma_lines(text: &[u8], from: usize, before: usize, start: Job) -> Result<Job, Refusal>
+    requires size { length text.now ≤ max_text }
+    requires behind { before ≤ from }
+    requires steps { start.program.steps ≤ max_steps }
+    requires variables { start.program.variables ≤ max_steps }
     ensures { result ≡ lemma_lines start before (lines (drop from text.now)) }
 {
     let mut at = from;
     let mut n = before;
-    let mut j = start;
+    let mut job = start;
+    // A while loop: a line's length is found as it is read.
     while at < text.len() {
-        let e = scan::end_of(text, at, 10);
-        let r = lemma_line(j, &text[at..e], e < text.len(), n + 1);
-        let v = r.verdict;
-        j = r.job;
-        let Verdict::Accepted = v else {
-            return denied(v);
-        };
-        at = e + 1;
+        let end = scan::end_of(text, at, b'\n');
+        job = lemma_line(job, &text[at..end], end < text.len(), n + 1)?;
+        at = end + 1;
         n += 1;
     }
-    Reading {
-        verdict: Verdict::Accepted,
-        job: j,
-    }
+    Ok(job)
 }
 
-fn stopped(end: End) -> Reading
-    ensures { result ≡ stop end }
+// What follows the program part.
+#[tactic(auto, unfolding(crate::specs::Reading::from_lemmas, crate::specs::Answers::then))]
+fn from_lemmas(text: &[u8], part: &ProgramPart) -> Result<Job, Refusal>
+    requires { program_of text.now ≡ Ok part.now }
+    ensures { result ≡ from_lemmas text.now part.now }
 {
-    match end {
-        End::Lemmas(_, _) => refused(0, 0),
-        End::Refused(number, place) => refused(number, place),
-    }
+    let job = at_lemmas(&part.draft, part.line)?;
+    lemma_lines(text, part.at, part.line, job)
 }
 
 // Reading a job: the table of its text, or a refusal.
-pub fn read(text: &[u8]) -> Reading
-    ensures { (answer_of result.verdict ≡ (read_job text.now).answer)
-        × (result.job ≡ (read_job text.now).table) }
+#[tactic(auto, unfolding(crate::specs::Reading::read_job, crate::specs::Reading::reading, crate::specs::Answers::then))]
+pub fn read(text: &[u8]) -> Result<Job, Refusal>
+    ensures reading { result ≡ reading text.now }
+    ensures answer { forgotten (answer_of result) ≡ (read_job text.now).answer }
+    ensures table { table_of result ≡ (read_job text.now).table }
 {
-    let o = program::program(text);
-    let end = o.end;
-    let End::Lemmas(n, at) = end else {
-        return stopped(end);
-    };
-    let r = at_lemmas(o.draft, n);
-    let v = r.verdict;
-    let Verdict::Accepted = v else {
-        return denied(v);
-    };
-    lemma_lines(text, at, n, r.job)
+    let part = program::program(text)?;
+    from_lemmas(text, &part)
+}
+
+// 'a refused job gives one of zeros': the table for a caller that is given one either way.
+pub fn table_of(read: &Result<Job, Refusal>) -> Job
+    ensures { result ≡ table_of read.now }
+{
+    if let Ok(job) = read {
+        return *job;
+    }
+    let draft = Draft::blank(0, Word::Free);
+    without_lemmas(&draft, draft.program)
 }

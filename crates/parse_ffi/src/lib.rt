@@ -6,7 +6,6 @@ ghost use Rattle.parse.specs.Reading.{read_job};
 ghost use Rattle.parse_ffi.specs.Foreign.{flat as flat_of, in_c};
 
 use job::Job;
-use parse::Verdict;
 
 // A reading as C lays it out: acceptance, with number and place 0, or the number and place of a refusal; and the table.
 #[repr(C)]
@@ -72,10 +71,10 @@ fn flat(accepted: bool, number: u8, place: usize, j: Job) -> Answer
 pub extern "C" fn read_job(text: &[u8]) -> Answer
     ensures { result ≡ in_c (read_job text.now) }
 {
-    let r = parse::read(text);
-    let v = r.verdict;
-    match v {
-        Verdict::Accepted => flat(true, 0, 0, r.job),
-        Verdict::Refused(q) => flat(false, q.number, q.place, r.job),
+    let read = parse::read(text);
+    let table = parse::table_of(&read);
+    match read {
+        Ok(_) => flat(true, 0, 0, table),
+        Err(refusal) => flat(false, refusal.fault.number(), refusal.place, table),
     }
 }

@@ -11,13 +11,14 @@ use lib.Dec.{ltb}
 use lib.IntN.{ℤ, pos}
 use lib.ListN.{length, drop, length-drop, drop_of_length-le}
 use lib.Seq.{drop-drop, take_at}
+use Rattle.lists.proofs.TestLaws.{within_is, within_over}
 use Rattle.job.specs.declared.Job.{Job}
 use Rattle.job.specs.Literals.{Clause, signed}
 use Rattle.job.specs.Clauses.{free_clauses, clauses}
 use Rattle.job.specs.Fitness.{fit}
 use Rattle.totals.specs.Totals.{totals_of}
 use Rattle.cnf.specs.Piece.{least_room, fitting, flat, piece, written, buffer_after}
-use Rattle.cnf.proofs.PieceLaws.{past_last, no_refusal}
+use Rattle.cnf.proofs.PieceLaws.{no_clause, no_refusal}
 use Rattle.pieces.specs.AllClauses.{Short, joined, then_next, called, Roomy, EachRoomy, Asked, Gives, AllClauses}
 use Rattle.pieces.proofs.ShortClauses.{clauses_short}
 
@@ -69,7 +70,7 @@ module _ (J : Job) (h : fit J ≡ true) where
   call : (c : ℕ) (old : List ℤ) → Asked J c (length old) → Gives J c old (piece J c (length old))
   unfolding written buffer_after
   call c old a =
-      let e = no_refusal J c (length old) h a.first a.last a.wide in
+      let e = no_refusal J c (length old) h (within_is 1 (length cs) c a.first a.last) a.wide in
       record { answer = rw e refl; buffer = rw e refl }
 
   -- ---- one call after the other
@@ -103,8 +104,8 @@ module _ (J : Job) (h : fit J ≡ true) where
     where
       go : Dec (length cs < c) → then_next (written J c old) (buffer_after J c old) next ≡ flat (drop (c - 1) cs)
       go (yes past) =
-          let (refusal_is, _) = past_last J c old h low past in
-          rw (← refusal_is) (ap flat (sym (drop_of_length-le cs {i = c - 1} (omega arith))))
+          let refused = no_clause J c old h (within_over 1 (length cs) c past) in
+          rw (← refused.answer) (ap flat (sym (drop_of_length-le cs {i = c - 1} (omega arith))))
       go (no here) =
           let p = piece J c (length old) in
           let given = call c old (record { first = low; last = omega arith; wide = wide }) in

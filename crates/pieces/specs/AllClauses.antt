@@ -9,7 +9,7 @@ use Rattle.job.specs.Literals.{Clause}
 use Rattle.job.specs.Numbering.{total}
 use Rattle.job.specs.Clauses.{clauses}
 use Rattle.totals.specs.Totals.{totals_of}
-use Rattle.cnf.specs.Answers.{Counts}
+use Rattle.cnf.specs.declared.Piece.{Piece}
 use Rattle.cnf.specs.Piece.{least_room, flat, piece, written, buffer_after}
 
 -- the longest clause says that some item differs: a literal for each step and each variable, and no more variables than steps
@@ -26,7 +26,7 @@ joined J c [] = []
 joined J c (room ∷ rooms) = piece J c room ++ joined J (c + length (piece J c room)) rooms
 
 -- the numbers that a call has written, and then those of the calls after it; none where it refuses
-abbrev pub then_next : Answer Counts → List ℤ → (ℕ → List ℤ) → List ℤ
+abbrev pub then_next : Answer Piece → List ℤ → (ℕ → List ℤ) → List ℤ
 then_next (gives k) buffer next = take k.numbers buffer ++ next k.clauses
 then_next (refuses number place) buffer next = []
 

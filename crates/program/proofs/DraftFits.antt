@@ -2,6 +2,7 @@
 use mathlib.Core.Path.{◌≡◌, refl, sym, ap, ◌∙◌, subst}
 use mathlib.Core.Bool.{Bool, true, false, cond}
 use mathlib.Core.List.{List}
+use Rattle.std.specs.Prelude.{Option, Some, None, Result, Ok, Err}
 use Prim.Native.Nat.{ℕ, zero, suc, ◌+◌, ◌≤◌, ◌<◌}
 use native.Mathlib.Omega.{arith}
 use native.Mathlib.Numerals.{add-one}
@@ -18,21 +19,18 @@ use Rattle.job.specs.Words.{crash}
 use Rattle.job.specs.Fitness.{larger, has_variable, mentioned}
 use Rattle.job.specs.declared.Program.{Program}
 use Rattle.scan.specs.Names.{lookup}
-use Rattle.scan.specs.declared.Found.{Found}
-use Rattle.scan.specs.declared.Found.TheVariants.{At, Nothing}
 use Rattle.scan.proofs.NameLaws.{lookup_below}
 use Rattle.scan.specs.Lines.{Row}
-use Rattle.fields.specs.Fields.{whole_line}
+use Rattle.job.specs.declared.refusal.Fault.{Fault}
+use Rattle.lines.specs.FirstLine.{code_of as word_code}
+use Rattle.lines.specs.StepLine.{code_of}
 use Rattle.lines.specs.declared.Step.{Step}
-use Rattle.lines.specs.declared.StepLine.{StepLine}
-use Rattle.lines.specs.declared.StepLine.TheVariants.{Line, Refused}
 use Rattle.lines.proofs.ShapeLaws.{Shape, step_shaped, bound_ranged}
 use Rattle.program.specs.Draft.{blank, process_of, mention_at, mention, enter, add_step}
-use Rattle.program.specs.ProgramLine.{stepped, program_line, line_of}
+use Rattle.program.specs.ProgramLine.{stepped, line_of}
 use Rattle.program.specs.Program.{program_of}
 use Rattle.program.specs.declared.Draft.{Draft}
-use Rattle.program.specs.declared.Lined.{Lined}
-use Rattle.program.proofs.ProgramLineLaws.{pick_all, whole_all}
+use Rattle.program.proofs.ProgramLineLaws.{draft_of, line_all}
 use Rattle.program.proofs.ReachedLaws.{Reached, reached}
 use Rattle.program.proofs.PutLaws.{Put, put_set, put_none, same_at}
 
@@ -172,23 +170,23 @@ process_ranged b = go (eqb b 65)
     go false = within_is 1 2 2 (omega arith) (omega arith)
 
 module _ (d : Draft) (s : List ℕ) (p : Step) (n : ℕ) (D : Drafted d.program) (l : d.program.steps < max_steps)
-    (h : Shape p.kind p.value) where
+    (h : Shape (code_of p.kind) p.value) where
   -- with variable number x
-  used_by : (x : ℕ) → cond (has_variable p.kind) (within 1 (d.program.variables + 1) x) (eqb x 0) ≡ true
-      → Used (process_of (num s 0)) p.kind x p.value d.program.variables
+  used_by : (x : ℕ) → cond (has_variable (code_of p.kind)) (within 1 (d.program.variables + 1) x) (eqb x 0) ≡ true
+      → Used (process_of (num s 0)) (code_of p.kind) x p.value d.program.variables
   used_by x k = (process_ranged (num s 0), h.0, k, h.1)
 
   abbrev Holds : Draft → Type 0
   Holds e = Drafted (enter e s p n).program
 
-  mention_drafted : has_variable p.kind ≡ true → (w : List ℕ) (f : Found) → lookup d.names d.program.variables w ≡ f
+  mention_drafted : has_variable (code_of p.kind) ≡ true → (w : List ℕ) (f : Option ℕ) → lookup d.names d.program.variables w ≡ f
       → Holds (mention_at d w f)
   unfolding enter mention_at
-  mention_drafted e w (At i) g =
+  mention_drafted e w (Some i) g =
       let b = lookup_below d.names d.program.variables w i g in
       let P = d.program in
       let k = P.steps in
-      more_drafted P _ (process_of (num s 0)) p.kind (i + 1) p.value D
+      more_drafted P _ (process_of (num s 0)) (code_of p.kind) (i + 1) p.value D
       (record {
         bound = refl;
         word = refl;
@@ -204,11 +202,11 @@ module _ (d : Draft) (s : List ℕ) (p : Step) (n : ℕ) (D : Drafted d.program)
       (used_by (i + 1) (ap (λ (t : Bool). cond t (within 1 (P.variables + 1) (i + 1)) (eqb (i + 1) 0)) e
       ∙ within_is 1 (P.variables + 1) (i + 1) (omega arith) (omega arith)))
       l
-  mention_drafted e w Nothing g =
+  mention_drafted e w None g =
       let P = d.program in
       let k = P.steps in
       let x = P.variables + 1 in
-      more_drafted P _ (process_of (num s 0)) p.kind x p.value D
+      more_drafted P _ (process_of (num s 0)) (code_of p.kind) x p.value D
       (record {
         bound = refl;
         word = refl;
@@ -225,12 +223,12 @@ module _ (d : Draft) (s : List ℕ) (p : Step) (n : ℕ) (D : Drafted d.program)
       ∙ within_is 1 (P.variables + 1) x (omega arith) (omega arith)))
       l
 
-  plain_drafted : has_variable p.kind ≡ false → Holds d
+  plain_drafted : has_variable (code_of p.kind) ≡ false → Holds d
   unfolding enter
   plain_drafted e =
       let P = d.program in
       let k = P.steps in
-      more_drafted P _ (process_of (num s 0)) p.kind 0 p.value D
+      more_drafted P _ (process_of (num s 0)) (code_of p.kind) 0 p.value D
       (record {
         bound = refl;
         word = refl;
@@ -248,35 +246,29 @@ module _ (d : Draft) (s : List ℕ) (p : Step) (n : ℕ) (D : Drafted d.program)
 
   pub step_drafted : Drafted (add_step d s p n).program
   unfolding add_step
-  step_drafted = go (has_variable p.kind) refl
+  step_drafted = go (has_variable (code_of p.kind)) refl
     where
-      go : (b : Bool) → has_variable p.kind ≡ b → Holds (cond b (mention d (slice p.variable p.equals s)) d)
+      go : (b : Bool) → has_variable (code_of p.kind) ≡ b → Holds (cond b (mention d (slice p.variable p.equals s)) d)
       go true e = mention_drafted e (slice p.variable p.equals s) _ refl
       go false e = plain_drafted e
 
 -- ---- all lines
 
-FitLine : Lined → Type 0
-FitLine r = Drafted r.draft.program
+stepped_drafted : (d : Draft) (s : List ℕ) (n : ℕ) (l : Result Step Fault) → ((p : Step) → l ≡ Ok p → Shape (code_of p.kind) p.value)
+    → Drafted d.program → d.program.steps < max_steps → Drafted (draft_of (stepped d s n l) d).program
+unfolding stepped
+stepped_drafted d s n (Ok p) h D l = step_drafted d s p n D l (h p refl)
+stepped_drafted d s n (Err fault) h D l = D
 
-stepped_drafted : (d : Draft) (s : List ℕ) (n : ℕ) (l : StepLine) → ((p : Step) → l ≡ Line p → Shape p.kind p.value)
-    → Drafted d.program → d.program.steps < max_steps → FitLine (stepped d s n l)
-unfolding stepped FitLine
-stepped_drafted d s n (Line p) h D l = step_drafted d s p n D l (h p refl)
-stepped_drafted d s n (Refused k) h D l = D
-
-pub line_drafted : (d : Draft) (l : Row) (n : ℕ) → Drafted d.program → Drafted (line_of d l n).draft.program
-unfolding program_line FitLine
+pub line_drafted : (d : Draft) (l : Row) (n : ℕ) → Drafted d.program → Drafted (draft_of (line_of d l n) d).program
 line_drafted d l n D =
-    whole_all FitLine (whole_line l) d _ (λ _. D)
-    (pick_all FitLine _ _ _ D (λ _. pick_all FitLine _ _ _ D
-    (λ _. pick_all FitLine _ _ _ D
-    (λ e. stepped_drafted d l.bytes n _ (step_shaped l.bytes d.labels d.program.steps _) D (leb-false _ _ e)))))
+    line_all (λ r. Drafted (draft_of r d).program) d l n (λ _. D) D D
+    (λ e. stepped_drafted d l.bytes n _ (step_shaped l.bytes d.labels d.program.steps _) D (leb-false _ _ e))
 
 -- the draft of a text that reaches `lemmas`
 pub reached_drafted : (text : List ℕ) → Reached (λ d n at. Drafted d.program) (program_of text)
 reached_drafted text =
     reached (λ d n at. Drafted d.program)
     (λ d l at n h. line_drafted d l (n + 1) h)
-    (λ s r word e n. let ranged = bound_ranged s _ r word e in blank_drafted r word ranged.0 ranged.1)
+    (λ s first e n. let ranged = bound_ranged s _ first e in blank_drafted first.bound (word_code first.word) ranged.0 ranged.1)
     text

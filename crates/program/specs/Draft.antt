@@ -1,13 +1,12 @@
 -- The table while its program is read: a step is entered at its line, a variable where it is first mentioned.
 -- L and M stay names, and each step keeps its line, until `lemmas`.
-use Rattle.std.specs.Prelude.{ℕ, ◌+◌, ◌*◌, cond, List, eqb, length, set, replicate}
+use Rattle.std.specs.Prelude.{ℕ, ◌+◌, ◌*◌, cond, Option, Some, None, List, eqb, length, set, replicate}
 use Rattle.std.proofs.Math.Seq.{slice}
 use Rattle.lists.specs.Rows.{num}
 use Rattle.job.specs.Limits.{max_steps}
 use Rattle.job.specs.Fitness.{has_variable, has_other}
 use Rattle.scan.specs.Names.{lookup}
-use Rattle.scan.specs.declared.Found.{Found}
-use Rattle.scan.specs.declared.Found.TheVariants.{At, Nothing}
+use Rattle.lines.specs.StepLine.{code_of}
 use Rattle.lines.specs.declared.Step.{Step}
 use Rattle.program.specs.declared.Draft.{Draft}
 
@@ -41,30 +40,15 @@ blank r word = record {
 
 -- the step that comes next has variable number x of n
 abbrev pub with_variable : Draft → List ℕ → ℕ → ℕ → Draft
-with_variable d names n x = record {
-  program = record {
-    bound = d.program.bound;
-    word = d.program.word;
-    steps = d.program.steps;
-    variables = n;
-    process = d.program.process;
-    kind = d.program.kind;
-    to = d.program.to;
-    other = d.program.other;
-    variable = set d.program.variable d.program.steps x;
-    value = d.program.value;
-  };
-  labels = d.labels;
+with_variable d names n x = record d {
+  program = record d.program { variables = n; variable = set d.program.variable d.program.steps x };
   names = names;
-  to = d.to;
-  other = d.other;
-  line = d.line;
 }
 
 -- a shared variable 'exists by being mentioned': the first of that name, or a new one
-unfoldable pub mention_at : Draft → List ℕ → Found → Draft
-mention_at d w (At i) = with_variable d d.names d.program.variables (i + 1)
-mention_at d w Nothing =
+unfoldable pub mention_at : Draft → List ℕ → Option ℕ → Draft
+mention_at d w (Some i) = with_variable d d.names d.program.variables (i + 1)
+mention_at d w None =
     with_variable d (put4 d.names d.program.variables w) (d.program.variables + 1) (d.program.variables + 1)
 
 abbrev pub mention : Draft → List ℕ → Draft
@@ -82,25 +66,18 @@ other_end kind len = cond (has_other kind) len 0
 
 -- the step of line n is entered
 unfoldable pub enter : Draft → List ℕ → Step → ℕ → Draft
-enter d s p n = record {
-  program = record {
-    bound = d.program.bound;
-    word = d.program.word;
+enter d s p n = record d {
+  program = record d.program {
     steps = d.program.steps + 1;
-    variables = d.program.variables;
     process = set d.program.process d.program.steps (process_of (num s 0));
-    kind = set d.program.kind d.program.steps p.kind;
-    to = d.program.to;
-    other = d.program.other;
-    variable = d.program.variable;
+    kind = set d.program.kind d.program.steps (code_of p.kind);
     value = set d.program.value d.program.steps p.value;
   };
   labels = put4 d.labels d.program.steps (slice 0 p.name s);
-  names = d.names;
   to = put4 d.to d.program.steps (slice p.to p.end s);
-  other = put4 d.other d.program.steps (slice p.other (other_end p.kind (length s)) s);
+  other = put4 d.other d.program.steps (slice p.other (other_end (code_of p.kind) (length s)) s);
   line = set d.line d.program.steps n;
 }
 
 unfoldable pub add_step : Draft → List ℕ → Step → ℕ → Draft
-add_step d s p n = enter (cond (has_variable p.kind) (mention d (slice p.variable p.equals s)) d) s p n
+add_step d s p n = enter (cond (has_variable (code_of p.kind)) (mention d (slice p.variable p.equals s)) d) s p n

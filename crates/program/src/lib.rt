@@ -1,18 +1,18 @@
 // The program part of a job text: line 1 and the program lines up to `lemmas`, entered into a draft of the table.
 #![tactic(auto)]
 
-ghost use Rattle.std.specs.Prelude.{◌≡◌, ◌+◌, ◌*◌, ◌<◌, ◌≤◌, length, drop};
-ghost use Rattle.std.proofs.Math.Seq.{slice};
+ghost use Rattle.std.specs.Prelude.{◌≡◌, ◌+◌, ◌<◌, ◌≤◌, length, drop};
 ghost use Rattle.job.specs.Limits.{max_steps, max_text};
 ghost use Rattle.scan.specs.Lines.{row, lines};
-ghost use Rattle.program.specs.Draft.{put4, blank as blank_draft, mention, process_of, other_end, enter, add_step};
-ghost use Rattle.program.specs.ProgramLine.{is_lemmas, number_of, program_line, line_of};
-ghost use Rattle.program.specs.Program.{refuse, stop, program as program_from, wrong_of, program_of};
+ghost use Rattle.lines.specs.FirstLine.{code_of};
+ghost use Rattle.program.specs.Draft.{put4, blank as blank_draft, mention as mention_word, process_of, enter as enter_step, add_step};
+ghost use Rattle.program.specs.ProgramLine.{is_lemmas, is_comment, program_line, line_of};
+ghost use Rattle.program.specs.Program.{program as program_from, from_line1, program_of};
 
-use fields::{Cursor, Field};
-use job::{Job, Program};
-use lines::{FirstLine, Step, StepLine};
-use scan::Found;
+use fields::Cursor;
+use job::{Fault, Job, Kind, Program, Refusal, Word};
+use lines::Step;
+use lists::get_or;
 
 // The table while its program is read. Labels L and M stay names, and each step keeps its line, until `lemmas`.
 #[derive(Clone, Copy)]
@@ -25,293 +25,210 @@ pub struct Draft {
     pub line: [usize; Job::STEPS],
 }
 
-// The numbers of document 01 that a program has besides those of its fields.
-impl Draft {
-    pub const TEXT_SIZE: u8 = 1;
-
-    pub const NO_LEMMAS: u8 = 6;
-
-    pub const MANY_STEPS: u8 = 7;
-}
-
-// How the program part ends: with `lemmas`, its line and where the text goes on; or a number and its place.
+// A program part that is read: its draft, the number of the line `lemmas`, and the byte behind it.
 #[derive(Clone, Copy)]
-pub enum End {
-    Lemmas(usize, usize),
-    Refused(u8, usize),
-}
-
-#[derive(Clone, Copy)]
-pub struct Outcome {
-    pub end: End,
+pub struct ProgramPart {
     pub draft: Draft,
+    pub line: usize,
+    pub at: usize,
 }
 
-// What a program line leads to.
-#[derive(Clone, Copy)]
-pub enum Next {
-    More,
-    Lemmas,
-    No(u8),
-}
-
-#[derive(Clone, Copy)]
-pub struct Lined {
-    pub next: Next,
-    pub draft: Draft,
-}
-
-// The draft of no steps.
-pub fn blank(bound: usize, word: u8) -> Draft
-    ensures { result ≡ blank_draft bound word }
-{
-    Draft {
-        program: Program {
-            bound,
-            word,
-            steps: 0,
-            variables: 0,
-            process: [0; Job::STEPS],
-            kind: [0; Job::STEPS],
-            to: [0; Job::STEPS],
-            other: [0; Job::STEPS],
-            variable: [0; Job::STEPS],
-            value: [0; Job::STEPS],
-        },
-        labels: [0; 4 * Job::STEPS],
-        names: [0; 4 * Job::STEPS],
-        to: [0; 4 * Job::STEPS],
-        other: [0; 4 * Job::STEPS],
-        line: [0; Job::STEPS],
-    }
-}
-
-// The word from from to to becomes name k.
-fn put(names: &mut [u8; 4 * Job::STEPS], k: usize, s: &[u8], from: usize, to: usize)
+// The word becomes name k.
+fn put(names: &mut [u8; 4 * Job::STEPS], k: usize, word: &[u8])
     requires { k < max_steps }
-    ensures { names.new ≡ put4 names.old k (slice from to s.now) }
+    ensures { names.new ≡ put4 names.old k word.now }
 {
-    names[k * 4] = scan::part_at(s, from, to, 0);
-    names[k * 4 + 1] = scan::part_at(s, from, to, 1);
-    names[k * 4 + 2] = scan::part_at(s, from, to, 2);
-    names[k * 4 + 3] = scan::part_at(s, from, to, 3);
+    names[k * 4] = get_or(word, 0, 0);
+    names[k * 4 + 1] = get_or(word, 1, 0);
+    names[k * 4 + 2] = get_or(word, 2, 0);
+    names[k * 4 + 3] = get_or(word, 3, 0);
 }
 
-// The next step has the variable from from to to: the first of that name, or a new one.
-fn mentioned(d: Draft, s: &[u8], from: usize, to: usize) -> Draft
-    requires { (d.program.variables ≤ d.program.steps) × (d.program.steps < max_steps) }
-    ensures { result ≡ mention d (slice from to s.now) }
-{
-    let mut e = d;
-    let mut p = e.program;
-    let k = p.steps;
-    let n = p.variables;
-    let f = scan::find(&e.names, n, s, from, to);
-    match f {
-        Found::At(i) => {
-            p.variable[k] = (i + 1) as u8;
-            e.program = p;
-            e
-        }
-        Found::Nothing => {
-            put(&mut e.names, n, s, from, to);
-            p.variables = n + 1;
-            p.variable[k] = (n + 1) as u8;
-            e.program = p;
-            e
-        }
-    }
-}
-
+#[tactic(auto, unfolding(crate::specs::Draft::process_of))]
 fn process_of(b: u8) -> u8
     ensures { result ≡ process_of b }
 {
     if b == b'A' { 1 } else { 2 }
 }
 
-fn other_end(kind: u8, len: usize) -> usize
-    ensures { result ≡ other_end kind len }
-{
-    if kind == 4 { len } else { 0 }
-}
-
-// The step of line n is entered.
-fn entered(d: Draft, s: &[u8], p: Step, n: usize) -> Draft
-    requires { d.program.steps < max_steps }
-    ensures { result ≡ enter d s.now p n }
-{
-    let mut e = d;
-    let mut q = e.program;
-    let k = q.steps;
-    put(&mut e.labels, k, s, 0, p.name);
-    put(&mut e.to, k, s, p.to, p.end);
-    put(&mut e.other, k, s, p.other, other_end(p.kind, s.len()));
-    e.line[k] = n;
-    q.process[k] = process_of(scan::byte_at(s, 0));
-    q.kind[k] = p.kind;
-    q.value[k] = p.value;
-    q.steps = k + 1;
-    e.program = q;
-    e
-}
-
-fn add_step(d: Draft, s: &[u8], p: Step, n: usize) -> Draft
-    requires { (d.program.variables ≤ d.program.steps) × (d.program.steps < max_steps) }
-    ensures { result ≡ add_step d s.now p n }
-{
-    if 3 <= p.kind {
-        return entered(mentioned(d, s, p.variable, p.equals), s, p, n);
+impl Draft {
+    // The draft of no steps.
+    #[tactic(auto, unfolding(crate::specs::Draft::blank))]
+    pub fn blank(bound: usize, word: Word) -> Draft
+        ensures { result ≡ blank_draft bound (code_of word) }
+    {
+        Draft {
+            program: Program {
+                bound,
+                word: word as u8,
+                steps: 0,
+                variables: 0,
+                process: [0; Job::STEPS],
+                kind: [0; Job::STEPS],
+                to: [0; Job::STEPS],
+                other: [0; Job::STEPS],
+                variable: [0; Job::STEPS],
+                value: [0; Job::STEPS],
+            },
+            labels: [0; 4 * Job::STEPS],
+            names: [0; 4 * Job::STEPS],
+            to: [0; 4 * Job::STEPS],
+            other: [0; 4 * Job::STEPS],
+            line: [0; Job::STEPS],
+        }
     }
-    entered(d, s, p, n)
+
+    // The next step has the variable of this name: the first of that name, or a new one.
+    #[tactic(auto, unfolding(crate::specs::Draft::mention_at))]
+    fn mention(&mut self, name: &[u8])
+        requires within { self.old.program.variables ≤ self.old.program.steps }
+        requires room { self.old.program.steps < max_steps }
+        ensures mentioned { self.new ≡ mention_word self.old name.now }
+        ensures steps { self.new.program.steps ≡ self.old.program.steps }
+    {
+        let k = self.program.steps;
+        let n = self.program.variables;
+        if let Some(x) = scan::find(&self.names, n, name) {
+            self.program.variable[k] = (x + 1) as u8;
+        } else {
+            put(&mut self.names, n, name);
+            self.program.variables = n + 1;
+            self.program.variable[k] = (n + 1) as u8;
+        }
+    }
+
+    // The step of line n is entered.
+    #[tactic(auto, unfolding(crate::specs::Draft::enter, crate::specs::Draft::other_end))]
+    fn enter(&mut self, s: &[u8], step: Step, n: usize)
+        requires { self.old.program.steps < max_steps }
+        ensures { self.new ≡ enter_step self.old s.now step n }
+    {
+        let k = self.program.steps;
+        let other_end = if step.kind == Kind::If { s.len() } else { 0 };
+        put(&mut self.labels, k, scan::part(s, 0, step.name));
+        put(&mut self.to, k, scan::part(s, step.to, step.end));
+        put(&mut self.other, k, scan::part(s, step.other, other_end));
+        self.line[k] = n;
+        self.program.process[k] = process_of(get_or(s, 0, 0));
+        self.program.kind[k] = step.kind as u8;
+        self.program.value[k] = step.value;
+        self.program.steps = k + 1;
+    }
+
+    #[tactic(auto, unfolding(crate::specs::Draft::add_step))]
+    fn add_step(&mut self, s: &[u8], step: Step, n: usize)
+        requires within { self.old.program.variables ≤ self.old.program.steps }
+        requires room { self.old.program.steps < max_steps }
+        ensures { self.new ≡ add_step self.old s.now step n }
+    {
+        if Kind::Assign as u8 <= step.kind as u8 {
+            self.mention(scan::part(s, step.variable, step.equals));
+        }
+        self.enter(s, step, n);
+    }
 }
 
+#[tactic(auto, unfolding(crate::specs::ProgramLine::is_lemmas))]
 pub fn is_lemmas(s: &[u8]) -> bool
     ensures { result ≡ is_lemmas s.now }
 {
-    if s.len() == 6 {
-        scan::follows(s, 0, b"lemmas")
-    } else {
-        false
-    }
+    s.len() == 6 && scan::follows(s, 0, b"lemmas")
 }
 
-fn number(l: StepLine) -> u8
-    ensures { result ≡ number_of l }
+#[tactic(auto, unfolding(crate::specs::ProgramLine::is_comment))]
+pub fn is_comment(s: &[u8]) -> bool
+    ensures { result ≡ is_comment s.now }
 {
-    match l {
-        StepLine::Line(_) => 0,
-        StepLine::Refused(k) => k,
-    }
+    scan::follows(s, 0, b"~")
 }
 
-// Line n, which has passed 2, 3, 4.
-fn program_line(d: Draft, s: &[u8], n: usize) -> Lined
-    requires { (d.program.variables ≤ d.program.steps) × (d.program.steps ≤ max_steps) }
-    ensures { result ≡ program_line d s.now n }
+// Line n, which has passed 2, 3, 4: the draft that the next line goes on with, or none at `lemmas`.
+#[tactic(auto, unfolding(crate::specs::ProgramLine::program_line, crate::specs::ProgramLine::stepped))]
+fn program_line(draft: Draft, s: &[u8], n: usize) -> Result<Option<Draft>, Fault>
+    requires within { draft.program.variables ≤ draft.program.steps }
+    requires few { draft.program.steps ≤ max_steps }
+    ensures { result ≡ program_line draft s.now n }
 {
     if is_lemmas(s) {
-        return Lined {
-            next: Next::Lemmas,
-            draft: d,
-        };
+        return Ok(None);
     }
-    if scan::follows(s, 0, b"~") {
-        return Lined {
-            next: Next::More,
-            draft: d,
-        };
+    if is_comment(s) {
+        return Ok(Some(draft));
     }
-    let k = d.program.steps;
+    let k = draft.program.steps;
     if Job::STEPS <= k {
-        return Lined {
-            next: Next::No(Draft::MANY_STEPS),
-            draft: d,
-        };
+        return Err(Fault::ManySteps);
     }
-    let l = lines::step_line(&d.labels, k, s, Cursor { line: n, column: 0 });
-    let StepLine::Line(p) = l else {
-        return Lined {
-            next: Next::No(number(l)),
-            draft: d,
-        };
-    };
-    let e = add_step(d, s, p, n);
-    Lined {
-        next: Next::More,
-        draft: e,
-    }
+    let step = lines::step_line(&draft.labels, k, s, Cursor { line: n, column: 0 })?;
+    let mut more = draft;
+    more.add_step(s, step, n);
+    Ok(Some(more))
 }
 
 // Line n, whose LF is there or not.
-fn line_of(d: Draft, s: &[u8], ended: bool, n: usize) -> Lined
-    requires { (d.program.variables ≤ d.program.steps) × (d.program.steps ≤ max_steps) }
-    ensures { result ≡ line_of d (row s.now ended) n }
+#[tactic(auto, unfolding(crate::specs::ProgramLine::whole))]
+fn line_of(draft: Draft, s: &[u8], ended: bool, n: usize) -> Result<Option<Draft>, Fault>
+    requires within { draft.program.variables ≤ draft.program.steps }
+    requires few { draft.program.steps ≤ max_steps }
+    ensures { result ≡ line_of draft (row s.now ended) n }
 {
-    let f = fields::line(s, ended);
-    let Field::Read = f else {
-        return Lined {
-            next: Next::No(fields::number(f)),
-            draft: d,
-        };
-    };
-    program_line(d, s, n)
-}
-
-fn refused(number: u8, place: usize) -> Outcome
-    ensures { result ≡ refuse number place }
-{
-    let draft = blank(0, Job::NO_WORD);
-    Outcome {
-        end: End::Refused(number, place),
-        draft,
-    }
-}
-
-// What follows line n where it is no plain program line.
-fn stopped(next: Next, d: Draft, n: usize, at: usize) -> Outcome
-    ensures { result ≡ stop next d n at }
-{
-    match next {
-        Next::More => refused(0, 0),
-        Next::Lemmas => Outcome {
-            end: End::Lemmas(n, at),
-            draft: d,
-        },
-        Next::No(k) => refused(k, n),
-    }
+    fields::line(s, ended)?;
+    program_line(draft, s, n)
 }
 
 // The program lines after line 1, which begin at from.
-fn program_lines(text: &[u8], from: usize, start: Draft) -> Outcome
-    requires { (1 ≤ from) × (length text.now ≤ max_text) × (from ≤ max_text + 1)
-        × (start.program.variables ≤ start.program.steps) × (start.program.steps ≤ max_steps) }
+fn program_lines(text: &[u8], from: usize, start: Draft) -> Result<ProgramPart, Refusal>
+    requires first { 1 ≤ from }
+    requires size { length text.now ≤ max_text }
+    requires inside { from ≤ max_text + 1 }
+    requires within { start.program.variables ≤ start.program.steps }
+    requires few { start.program.steps ≤ max_steps }
     ensures { result ≡ program_from start from 1 (lines (drop from text.now)) }
 {
     let mut at = from;
     let mut n: usize = 1;
-    let mut d = start;
+    let mut draft = start;
+    // A while loop: a line's length is found as it is read.
     while at < text.len() {
-        let e = scan::end_of(text, at, 10);
-        let r = line_of(d, &text[at..e], e < text.len(), n + 1);
-        let next = r.next;
-        d = r.draft;
-        let Next::More = next else {
-            return stopped(next, d, n + 1, e + 1);
-        };
-        at = e + 1;
+        let end = scan::end_of(text, at, b'\n');
         n += 1;
+        let next = match line_of(draft, &text[at..end], end < text.len(), n) {
+            Ok(next) => next,
+            Err(fault) => return Err(fault.at(n)),
+        };
+        at = end + 1;
+        let Some(more) = next else {
+            return Ok(ProgramPart { draft, line: n, at });
+        };
+        draft = more;
     }
-    refused(Draft::NO_LEMMAS, n + 1)
+    Err(Fault::NoLemmas.at(n + 1))
 }
 
-fn wrong(f: FirstLine) -> u8
-    ensures { result ≡ wrong_of f }
+// Line 1 and the lines behind it.
+fn from_line_1(text: &[u8]) -> Result<ProgramPart, Refusal>
+    requires some { 1 ≤ length text.now }
+    requires size { length text.now ≤ max_text }
+    ensures { result ≡ from_line1 (lines text.now) }
 {
-    match f {
-        FirstLine::Bound(_, _) => 0,
-        FirstLine::Refused(k) => k,
+    let end = scan::end_of(text, 0, b'\n');
+    let line = &text[..end];
+    if let Err(fault) = fields::line(line, end < text.len()) {
+        return Err(fault.at(1));
+    }
+    match lines::first_line(line, Cursor { line: 1, column: 0 }) {
+        Ok(first) => program_lines(text, end + 1, Draft::blank(first.bound, first.word)),
+        Err(fault) => Err(fault.at(1)),
     }
 }
 
 // The program part of a text.
-pub fn program(text: &[u8]) -> Outcome
+#[tactic(auto, unfolding(crate::specs::Program::program_of, lists::specs::Tests::within, lists::specs::Tests::every))]
+pub fn program(text: &[u8]) -> Result<ProgramPart, Refusal>
     ensures { result ≡ program_of text.now }
 {
-    if text.len() == 0 {
-        return refused(Draft::TEXT_SIZE, 0);
+    if !(1..=Job::TEXT).contains(&text.len()) {
+        return Err(Fault::TextSize.into());
     }
-    if Job::TEXT < text.len() {
-        return refused(Draft::TEXT_SIZE, 0);
-    }
-    let e = scan::end_of(text, 0, 10);
-    let s = &text[0..e];
-    let f = fields::line(s, e < text.len());
-    let Field::Read = f else {
-        return refused(fields::number(f), 1);
-    };
-    let l = lines::first_line(s, Cursor { line: 1, column: 0 });
-    let FirstLine::Bound(r, word) = l else {
-        return refused(wrong(l), 1);
-    };
-    program_lines(text, e + 1, blank(r, word))
+    from_line_1(text)
 }

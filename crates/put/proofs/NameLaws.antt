@@ -14,7 +14,8 @@ use Rattle.lists.proofs.RowLaws.{length_tab}
 use Rattle.lists.proofs.PlaceLaws.{first_zero, first_most, first_none, first_found}
 use Rattle.scan.proofs.WordLaws.{byte_out, byte_in}
 use Rattle.put.specs.Names.{name_at}
-use Rattle.put.specs.Put.{placed, put, Put}
+use Rattle.put.specs.declared.Page.{Page}
+use Rattle.put.specs.Put.{Adds, Puts}
 use Rattle.put.proofs.PutLaws.{put_within}
 
 -- the n bytes from place b on
@@ -64,7 +65,5 @@ module _ (names : List ℕ) (k : ℕ) where
       rw n (part_tab names (k * 4) (first 4 ends) (omega (arith, name_size)))
 
   -- where there is room for four bytes, the name is put
-  pub name_fits : {at next : ℕ} {old new : List ℕ} → (next ≡ placed old at (name_at names k)) × (new ≡ put old at (name_at names k))
-      → at + 4 ≤ length old
-      → Put 4 old at (name_at names k) next new
-  name_fits p h = put_within p name_short h
+  pub name_fits : {old new : Page} → Adds old new (name_at names k) → old.end + 4 ≤ length old.out.now → Puts 4 old new (name_at names k)
+  name_fits a h = put_within a name_short h

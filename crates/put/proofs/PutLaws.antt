@@ -13,7 +13,8 @@ use lib.Seq.{take_at}
 use Rattle.lists.specs.Rows.{each}
 use Rattle.lists.specs.Writing.{write}
 use Rattle.lists.proofs.WritingLaws.{length_write, write_none, write_more}
-use Rattle.put.specs.Put.{placed, put, Put}
+use Rattle.put.specs.declared.Page.{Page}
+use Rattle.put.specs.Put.{placed, put, Adds, Puts}
 
 -- ---- a part with room for it, and one without
 
@@ -36,65 +37,96 @@ module _ (old : List ℕ) (at : ℕ) (part : List ℕ) where
       go true = (sym (add-zero at), write_none old at)
       go false = (refl, refl)
 
+-- the same of a buffer and its place
+module _ (old : Page) (part : List ℕ) where
+  pub adds_whole : (new : Page) → old.end + length part ≤ length old.out.now → new.out.ghost_name ≡ old.out.ghost_name
+      → new.end ≡ old.end + length part → new.out.now ≡ write old.out.now old.end part → Adds old new part
+  adds_whole new h same n w =
+      let (end, out) = put_whole old.out.now old.end part new.end new.out.now h n w in
+      record { same_reference = same; end = end; out = out }
+
+  pub adds_not : length old.out.now < old.end + length part → Adds old old part
+  adds_not h =
+      let (end, out) = put_not old.out.now old.end part h in
+      record { same_reference = refl; end = end; out = out }
+
+  pub adds_empty : part ≡ [] → Adds old old part
+  adds_empty e =
+      let (end, out) = put_empty old.out.now old.end part e in
+      record { same_reference = refl; end = end; out = out }
+
 -- where there is room for so many bytes, a part that has no more is put
-pub put_within : {most at next : ℕ} {old part new : List ℕ} → (next ≡ placed old at part) × (new ≡ put old at part) → length part ≤ most
-    → at + most ≤ length old
-    → Put most old at part next new
+pub put_within : {most : ℕ} {old new : Page} {part : List ℕ} → Adds old new part → length part ≤ most
+    → old.end + most ≤ length old.out.now → Puts most old new part
 unfolding placed put
-put_within {at = at} {old = old} {part = part} (n, w) s h =
-    let t = le-leb (at + length part) (length old) (omega arith) in
-    record { short = s; behind = n ∙ rw t; holds = w ∙ rw t }
+put_within {old = old} {part = part} a s h =
+    let t = le-leb (old.end + length part) (length old.out.now) (omega arith) in
+    record { same_reference = a.same_reference; short = s; end = a.end ∙ rw t; out = a.out ∙ rw t }
 
 -- where there is room for the part, it is put
-pub put_fits : {at next : ℕ} {old part new : List ℕ} → (next ≡ placed old at part) × (new ≡ put old at part) → at + length part ≤ length old
-    → Put (length part) old at part next new
-put_fits p h = put_within p (omega arith) h
+pub put_fits : {old new : Page} {part : List ℕ} → Adds old new part → old.end + length part ≤ length old.out.now
+    → Puts (length part) old new part
+put_fits a h = put_within a (omega arith) h
 
 -- ---- one behind the other
 
-pub put_none : (old : List ℕ) (at : ℕ) → Put 0 old at [] at old
-put_none old at = record { short = omega arith; behind = sym (add-zero at); holds = write_none old at }
+pub put_none : (old : Page) → Puts 0 old old []
+put_none old = record {
+  same_reference = refl;
+  short = omega arith;
+  end = sym (add-zero old.end);
+  out = write_none old.out.now old.end;
+}
 
-module _ {most at next : ℕ} {old part new : List ℕ} where
-  pub put_length : Put most old at part next new → at + most ≤ length old → length new ≡ length old
-  put_length p h = ap length p.holds ∙ length_write old at part (omega (arith, p.short))
+module _ {most : ℕ} {old new : Page} {part : List ℕ} where
+  pub put_length : Puts most old new part → old.end + most ≤ length old.out.now → length new.out.now ≡ length old.out.now
+  put_length p h = ap length p.out ∙ length_write old.out.now old.end part (omega (arith, p.short))
+
+  -- the room that is left behind it
+  pub put_room : (more : ℕ) → Puts most old new part → old.end + (most + more) ≤ length old.out.now → new.end + more ≤ length new.out.now
+  put_room more p h = omega (arith, p.end, p.short, put_length p (omega arith))
 
   -- a larger bound
-  pub put_most : {k : ℕ} → Put most old at part next new → most ≤ k → Put k old at part next new
-  put_most p h = record { short = omega (arith, p.short); behind = p.behind; holds = p.holds }
+  pub put_most : {k : ℕ} → Puts most old new part → most ≤ k → Puts k old new part
+  put_most p h = record { same_reference = p.same_reference; short = omega (arith, p.short); end = p.end; out = p.out }
 
   -- the part's own length
-  pub put_own : Put most old at part next new → Put (length part) old at part next new
-  put_own p = record { short = omega arith; behind = p.behind; holds = p.holds }
+  pub put_own : Puts most old new part → Puts (length part) old new part
+  put_own p = record { same_reference = p.same_reference; short = omega arith; end = p.end; out = p.out }
 
   -- a part and then the next one behind it
-  pub put_then : {more end : ℕ} {q last : List ℕ} → Put most old at part next new → Put more new next q end last
-      → at + (most + more) ≤ length old → Put (most + more) old at (part ++ q) end last
-  put_then {more} {end} {q} {last} a b h = record {
+  pub put_then : {more : ℕ} {last : Page} {q : List ℕ} → Puts most old new part → Puts more new last q
+      → old.end + (most + more) ≤ length old.out.now → Puts (most + more) old last (part ++ q)
+  put_then {more} {last} {q} a b h = record {
+    same_reference = b.same_reference ∙ a.same_reference;
     short = rw length-append (omega (arith, a.short, b.short));
-    behind = rw length-append (omega (arith, a.behind, b.behind));
-    holds = b.holds ∙ rw (a.holds, a.behind) (write_more old at part q (omega (arith, a.short, b.short)));
+    end = rw length-append (omega (arith, a.end, b.end));
+    out = b.out ∙ rw (a.out, a.end) (write_more old.out.now old.end part q (omega (arith, a.short, b.short)));
   }
 
 -- a row of parts of at most k bytes each
-module _ (k : ℕ) (f : ℕ → List ℕ) (old : List ℕ) (at : ℕ) where
-  pub row_none : Put (0 * k) old at (each 0 f) at old
+module _ (k : ℕ) (f : ℕ → List ℕ) (old : Page) where
+  pub row_none : Puts (0 * k) old old (each 0 f)
   unfolding each
-  row_none = put_most (put_none old at) (omega arith)
+  row_none = put_most (put_none old) (omega arith)
 
-  pub row_next : (i : ℕ) {end last : ℕ} {mid new : List ℕ} → Put (i * k) old at (each i f) end mid → Put k mid end (f i) last new
-      → at + (i * k + k) ≤ length old → Put ((i + 1) * k) old at (each (i + 1) f) last new
+  pub row_next : (i : ℕ) {mid new : Page} → Puts (i * k) old mid (each i f) → Puts k mid new (f i)
+      → old.end + (i * k + k) ≤ length old.out.now → Puts ((i + 1) * k) old new (each (i + 1) f)
   unfolding each
   row_next i a b h =
       let e : i * k + k ≡ (i + 1) * k = omega arith in
       rw (← e, add-one i) (put_then a b h)
 
-module _ {most next : ℕ} {old part new : List ℕ} (p : Put most old 0 part next new) where
+module _ {most : ℕ} {old new : Page} {part : List ℕ} (p : Puts most old new part) (front : old.end ≡ 0) where
   -- what was put at the front is the front
-  pub put_front : take next new ≡ part
+  pub put_front : take new.end new.out.now ≡ part
   put_front =
-      let e : length part ≡ next = omega (arith, p.behind) in
-      rw p.holds (take_at part _ next e)
+      let e : length part ≡ new.end = omega (arith, p.end) in
+      rw (p.out, front) (take_at part _ new.end e)
 
-  pub front_length : next ≡ length (take next new)
-  front_length = omega (arith, p.behind, ap length put_front)
+  pub front_length : new.end ≡ length (take new.end new.out.now)
+  front_length = omega (arith, p.end, ap length put_front)
+
+-- what a lent buffer is at last, where a page still holds it: the second fact is left to `search`, which knows it by `same_reference`
+pub kept : {x y z : List ℕ} → y ≡ z → x ≡ y → x ≡ z
+kept e h = h ∙ e

@@ -1,35 +1,57 @@
-// Bytes put into a lent buffer, and the place behind them. Every function is total: what has no room is not put.
+// Bytes put into a lent buffer, one part behind the other. Every method is total: what has no room is not put.
 #![tactic(auto)]
 
 ghost use Rattle.std.specs.Prelude.{◌≡◌, [], ◌∷◌, ◌+◌, ◌*◌, ◌≤◌, length};
 ghost use Rattle.put.specs.Names.{name_at};
-ghost use Rattle.put.specs.Put.{placed, put};
 
-pub fn put_byte(out: &mut [u8], at: usize, b: u8) -> usize
-    ensures { (result ≡ placed out.old at (b ∷ [])) × (out.new ≡ put out.old at (b ∷ [])) }
-{
-    if out.len() <= at {
-        return at;
-    }
-    out[at] = b;
-    at + 1
+// A lent buffer, and the place behind what stands in it.
+#[derive(Drop)]
+pub struct Page<'a> {
+    pub out: &'a mut [u8],
+    pub end: usize,
 }
 
-pub fn put_part(out: &mut [u8], at: usize, part: &[u8]) -> usize
-    ensures { (result ≡ placed out.old at part.now) × (out.new ≡ put out.old at part.now) }
-{
-    if out.len() < at {
-        return at;
+impl<'a> Page<'a> {
+    ghost use Rattle.put.specs.Put.{Adds};
+
+    // The buffer from its front on.
+    pub fn new(out: &'a mut [u8]) -> Page<'a>
+        ensures same_reference { result.out.ghost_name ≡ out.entry.ghost_name }
+        ensures out { result.out.now ≡ out.old }
+        ensures end { result.end ≡ 0 }
+    {
+        Page { out, end: 0 }
     }
-    if out.len() - at < part.len() {
-        return at;
+
+    pub fn byte(&mut self, b: u8)
+        ensures { Adds self.old self.new (b ∷ []) }
+    {
+        if self.end < self.out.len() {
+            self.out[self.end] = b;
+            self.end += 1;
+        }
     }
-    let mut i: usize = 0;
-    while i < part.len() {
-        out[at + i] = part[i];
-        i += 1;
+
+    pub fn part(&mut self, part: &[u8])
+        ensures { Adds self.old self.new part.now }
+    {
+        let end = self.end;
+        if end <= self.out.len() && part.len() <= self.out.len() - end {
+            self.out[end..end + part.len()].copy_from_slice(part);
+            self.end += part.len();
+        }
     }
-    at + i
+
+    // Name k of a table, counted from 0; past the table it is empty.
+    pub fn name(&mut self, names: &[u8], k: usize)
+        ensures { Adds self.old self.new (name_at names.now k) }
+    {
+        if k <= names.len() / 4 {
+            let from = k * 4;
+            let length = name_length(names, k);
+            self.part(&names[from..from + length]);
+        }
+    }
 }
 
 // How many bytes name k of a table has before its first 0.
@@ -37,24 +59,10 @@ fn name_length(names: &[u8], k: usize) -> usize
     requires { k * 4 ≤ length names.now }
     ensures { (result ≡ length (name_at names.now k)) × (k * 4 + result ≤ length names.now) }
 {
-    let mut i: usize = 0;
-    while i < 4 {
-        if scan::byte_at(names, k * 4 + i) == 0 {
+    for i in 0..4 {
+        if lists::get_or(names, k * 4 + i, 0) == 0 {
             return i;
         }
-        i += 1;
     }
-    i
-}
-
-// Name k of a table, counted from 0; past the table it is empty.
-pub fn put_name(out: &mut [u8], at: usize, names: &[u8], k: usize) -> usize
-    ensures { (result ≡ placed out.old at (name_at names.now k)) × (out.new ≡ put out.old at (name_at names.now k)) }
-{
-    if names.len() / 4 < k {
-        return at;
-    }
-    let from = k * 4;
-    let end = from + name_length(names, k);
-    put_part(out, at, &names[from..end])
+    4
 }

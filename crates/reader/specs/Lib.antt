@@ -1,2 +1,3 @@
--- A line of a reply.
-pub mod Lines
+-- A text in parts, and what a reader has left of it.
+pub mod Parts
+pub mod Reader

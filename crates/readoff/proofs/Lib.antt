@@ -1,5 +1,6 @@
 -- The laws of reading off.
 pub mod StandingLaws
-pub mod ReadingLaws
+pub mod SizeLaws
 pub mod AnswerLaws
 pub mod FrontLaws
+pub mod ReadingLaws

@@ -1,4 +1,3 @@
 -- What reading off answers, and below it how the code finds where a process stands.
-pub mod Answers
 pub mod ReadingOff
 pub mod Standing

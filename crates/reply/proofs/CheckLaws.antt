@@ -1,43 +1,42 @@
 -- The answer to a reply: one law for each way out of the open call.
-use mathlib.Core.Path.{◌≡◌, refl, sym, ap, ◌∙◌}
+use mathlib.Core.Path.{◌≡◌, sym, ap, ◌∙◌}
 use mathlib.Core.Bool.{true, false, cond}
-use mathlib.Core.List.{List, ◌++◌}
+use mathlib.Core.List.{List, [], ◌++◌}
+use Rattle.std.proofs.Common.{Result, Ok, Err, append-nil, length-take-le}
+use Rattle.lists.specs.Rows.{tab}
 use Prim.Native.Nat.{ℕ, ◌≤◌, ◌<◌}
 use native.Mathlib.Omega.{arith}
 use borrow.Author.Tests.{lt-ltb, le-ltb}
 use lib.Dec.{ltb}
-use lib.ListN.{length, take, drop}
-use lib.Seq.{take_at}
+use lib.ListN.{length, take, drop, length-take, drop_of_length-le}
 use Rattle.job.specs.declared.Job.{Job}
-use Rattle.job.specs.declared.Refusal.{Refusal}
-use Rattle.job.specs.Answers.{gives}
+use Rattle.job.specs.declared.refusal.Refusal.{Refusal}
+use Rattle.job.specs.Faults.{number_of}
+use Rattle.job.specs.Answers.{gives, answer_of}
 use Rattle.job.specs.Numbering.{total}
 use Rattle.job.specs.Clauses.{clauses}
 use Rattle.job.specs.Fitness.{fit}
+use Rattle.fit.specs.declared.FitJob.{FitJob}
+use Rattle.totals.specs.declared.Header.{Header}
+use Rattle.totals.specs.Totals.{header_of}
 use Rattle.job.specs.Satisfaction.{false_clause}
-use Rattle.cnf.specs.declared.Evaluation.{Evaluation}
-use Rattle.cnf.specs.declared.Evaluation.TheVariants.{FirstFalse, Unfit}
-use Rattle.cnf.specs.Answers.{answer_of_evaluation}
 use Rattle.cnf.specs.Evaluation.{evaluation}
-use Rattle.reply.specs.declared.Checked.{Checked}
-use Rattle.reply.specs.declared.Checked.TheVariants.{Accepted, Refused}
 use Rattle.reply.specs.Reply.{Read, refusal, values, values_read}
 use Rattle.reply.specs.Check.{accepted, refused, max_reply, weighed, checked}
 use Rattle.reply.specs.Answers.{outcome, settled}
-use Rattle.reply.proofs.ReplyLaws.{read_values}
 
 -- ---- the evaluation of a fit table's clauses
 
-module _ (J : Job) (h : fit J ≡ true) (vs : List ℕ) (e : Evaluation) (is : answer_of_evaluation e ≡ evaluation J vs) where
-  fit_evaluation : gives (false_clause J vs) ≡ answer_of_evaluation e
+module _ (J : Job) (h : fit J ≡ true) (vs : List ℕ) (e : Result ℕ Refusal) (is : answer_of e ≡ evaluation J vs) where
+  fit_evaluation : gives (false_clause J vs) ≡ answer_of e
   unfolding evaluation
   fit_evaluation = sym (is ∙ rw h)
 
-  pub first_false : (f : ℕ) → e ≡ FirstFalse f → f ≡ false_clause J vs
-  first_false f k = let q = fit_evaluation ∙ ap answer_of_evaluation k in cc
+  first_false : (f : ℕ) → e ≡ Ok f → f ≡ false_clause J vs
+  first_false f k = let q = fit_evaluation ∙ ap answer_of k in cc
 
-  pub not_unfit : (r : Refusal) → e ≡ Unfit r → (f : ℕ) → f ≡ false_clause J vs
-  not_unfit r k f = let q = fit_evaluation ∙ ap answer_of_evaluation k in let z : ◌≡◌ {A = ℕ} 0 1 = cc in absurd (omega arith)
+  pub not_unfit : (r : Refusal) → e ≡ Err r → ⊥
+  not_unfit r k = let q = fit_evaluation ∙ ap answer_of k in let z : ◌≡◌ {A = ℕ} 0 1 = cc in omega arith
 
 -- ---- the order of the numbers
 
@@ -46,7 +45,25 @@ module _ (J : Job) (reply work : List ℕ) where
   unfolding checked
   is_45 h = rw h
 
-  module _ (h : fit J ≡ true) (n : ℕ) (e : n ≡ total J.program) where
+  module _ (F : FitJob) (same : F.job ≡ J) (header : Header) (counts : header ≡ header_of F.job) where
+    abbrev n : ℕ
+    n = header.variables
+
+    abbrev c : ℕ
+    c = header.clauses
+
+    pub h : fit J ≡ true
+    h = rw same at F.fits
+
+    is_header : header ≡ header_of J
+    is_header = counts ∙ ap header_of same
+
+    e : n ≡ total J.program
+    e = ap (λ (a : Header). a.variables) is_header
+
+    count : c ≡ length (clauses J)
+    count = ap (λ (a : Header). a.clauses) is_header
+
     pub is_51 : length work < n → refused 51 0 work ≡ checked J reply work
     unfolding checked
     is_51 l = rw (h, ← e, lt-ltb (length work) n l)
@@ -56,37 +73,52 @@ module _ (J : Job) (reply work : List ℕ) where
       unfolding checked
       is_60 k = rw (h, ← e, le-ltb (length work) n l, lt-ltb max_reply (length reply) k)
 
-      -- r and w are the answer and the buffer once the reply is read
-      module _ (k : length reply ≤ max_reply) (r : Checked) (w : List ℕ) (read : outcome r w ≡ settled n work (values_read n reply)) where
+      -- r and w are the answer and the first n bytes of the buffer once the reply is read
+      module _ (k : length reply ≤ max_reply) {T : Type 0} (r : Result T Refusal) (w : List ℕ)
+          (answer : outcome r w ≡ settled (length (take n work)) (take n work) (values_read (length (take n work)) reply)) where
+        read : outcome r w ≡ settled n (take n work) (values_read n reply)
+        read = rw (length-take-le n work l) at answer
+
         is_weighed : weighed J work (values_read n reply) ≡ checked J reply work
         unfolding checked
         is_weighed = sym (rw (h, ← e, le-ltb (length work) n l, le-ltb max_reply (length reply) k))
 
-        pub is_refused : (x : Refusal) → r ≡ Refused x → outcome r w ≡ checked J reply work
-        is_refused x p = go (values_read n reply) read ∙ is_weighed
-          where
-            go : (R : Read) → outcome r w ≡ settled n work R → outcome r w ≡ weighed J work R
-            go (refusal c i) q = q ∙ rw e
-            go (values vs) q =
-                let a : refused x.number x.place w ≡ accepted (vs ++ drop n work) = rw p at q in
-                let z : ◌≡◌ {A = ℕ} 0 1 = cc in
-                absurd (omega arith)
+        -- the rest of the first n bytes is nothing
+        nothing : drop n (take n work) ≡ []
+        nothing = drop_of_length-le (take n work) (omega (arith, length-take n work))
 
-        module _ (p : r ≡ Accepted) (c f : ℕ) (count : c ≡ length (clauses J)) (first : f ≡ false_clause J (take n w)) where
-          is_judged : cond (ltb c f) (accepted w) (refused 65 f w) ≡ checked J reply work
-          is_judged = go (values_read n reply) refl (rw p at read) ∙ is_weighed
+        pub is_refused : (x : Refusal) → r ≡ Err x → refused (number_of x.fault) x.place (w ++ drop n work) ≡ checked J reply work
+        is_refused x p = go (values_read n reply) (rw p at read) ∙ is_weighed
+          where
+            go : (R : Read) → refused (number_of x.fault) x.place w ≡ settled n (take n work) R
+                → refused (number_of x.fault) x.place (w ++ drop n work) ≡ weighed J work R
+            go (refusal c i) q =
+                let zeros : List ℕ = tab n (λ y. 0) in
+                let b₀ : w ≡ zeros ++ drop n (take n work) = cc in
+                let b : w ≡ zeros = b₀ ∙ ap (λ rest. zeros ++ rest) nothing ∙ append-nil zeros in
+                let c' : number_of x.fault ≡ c = cc in
+                let i' : x.place ≡ i = cc in
+                rw (b, c', i', ← e)
+            go (values vs) q = let z : ◌≡◌ {A = ℕ} 0 1 = cc in absurd (omega arith)
+
+        module _ (x : T) (p : r ≡ Ok x) (v : Result ℕ Refusal) (is : answer_of v ≡ evaluation J w) (f : ℕ) (found : v ≡ Ok f) where
+          first : f ≡ false_clause J w
+          first = first_false J h w v is f found
+
+          is_judged : cond (ltb c f) (accepted (w ++ drop n work)) (refused 65 f (w ++ drop n work)) ≡ checked J reply work
+          is_judged = go (values_read n reply) (rw p at read) ∙ is_weighed
             where
-              go : (R : Read) → values_read n reply ≡ R → accepted w ≡ settled n work R → cond (ltb c f) (accepted w) (refused 65 f w)
-                  ≡ weighed J work R
-              go (refusal d i) o q = let z : ◌≡◌ {A = ℕ} 0 1 = cc in absurd (omega arith)
-              go (values vs) o q =
-                  let b : w ≡ vs ++ drop n work = cc in
-                  let v : take n w ≡ vs = rw b (take_at vs (drop n work) n (read_values n reply vs o).long) in
-                  let g : f ≡ false_clause J vs = first ∙ ap (false_clause J) v in
+              go : (R : Read) → accepted w ≡ settled n (take n work) R
+                  → cond (ltb c f) (accepted (w ++ drop n work)) (refused 65 f (w ++ drop n work)) ≡ weighed J work R
+              go (refusal d i) q = let z : ◌≡◌ {A = ℕ} 0 1 = cc in absurd (omega arith)
+              go (values vs) q =
+                  let b₀ : w ≡ vs ++ drop n (take n work) = cc in
+                  let b : w ≡ vs = b₀ ∙ ap (λ rest. vs ++ rest) nothing ∙ append-nil vs in
+                  let g : f ≡ false_clause J vs = first ∙ ap (false_clause J) b in
                   rw (count, g, b, ← e)
 
-          pub is_accepted_lem : c < f → accepted w ≡ checked J reply work
+          pub is_accepted_lem : c < f → accepted (w ++ drop n work) ≡ checked J reply work
           is_accepted_lem t = rw (lt-ltb c f t) at is_judged
 
-          pub is_65 : f ≤ c → refused 65 f w ≡ checked J reply work
+          pub is_65 : f ≤ c → refused 65 f (w ++ drop n work) ≡ checked J reply work
           is_65 t = rw (le-ltb c f t) at is_judged

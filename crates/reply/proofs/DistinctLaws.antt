@@ -1,6 +1,6 @@
 -- The literals that a reply lists are heard at N exactly when their numbers are at most N and none comes twice.
 use mathlib.Core.Path.{◌≡◌, refl}
-use mathlib.Core.Bool.{Bool, true, false, not, true≢false}
+use mathlib.Core.Bool.{true, false, not, true≢false}
 use mathlib.Core.Logic.{◌⊎◌, inl, inr}
 use mathlib.Core.List.{List, [], ◌∷◌}
 use Prim.Native.Nat.{ℕ, ◌≤◌, ◌<◌}
@@ -10,8 +10,7 @@ use borrow.Author.Tests.{eqb-true}
 use lib.Dec.{eqb}
 use Rattle.lists.proofs.Logic.{split}
 use Rattle.job.specs.declared.Literal.{Literal}
-use Rattle.job.specs.declared.Literal.TheVariants.{On, Off}
-use Rattle.job.specs.Literals.{place, valued}
+use Rattle.job.specs.Literals.{place}
 use Rattle.job.specs.InRange.{Below}
 use Rattle.tokens.specs.Numbers.{max_number}
 use Rattle.reply.specs.Said.{says, literals}
@@ -63,10 +62,9 @@ module _ (N : ℕ) where
     pub listed_heard : Lists reply ls → Distinct N ls → heard_in literals N [] reply ≡ whole ls
     listed_heard e d = (heard_kept unchecked literals max_number N (Distinct N) takes [] ls reply e d).1
       where
-        takes : (m : List Literal) (on : Bool) (x : ℕ) → x < max_number → false ≡ false → Distinct N (valued on x ∷ m)
-            → Distinct N m × (x < N) × (not (eqb (says m x) 0) ≡ false) × (valued on x ∷ m ≡ valued on x ∷ m)
-        takes m true x l h g = (tail_distinct (On x) m g, g.none_past.0, rw (new_first (On x) m g), refl)
-        takes m false x l h g = (tail_distinct (Off x) m g, g.none_past.0, rw (new_first (Off x) m g), refl)
+        takes : (m : List Literal) (l : Literal) → place l < max_number → false ≡ false → Distinct N (l ∷ m)
+            → Distinct N m × (place l < N) × (not (eqb (says m (place l)) 0) ≡ false) × (l ∷ m ≡ l ∷ m)
+        takes m l h new g = (tail_distinct l m g, g.none_past.0, rw (new_first l m g), refl)
 
     -- from the end back to the start: if what was heard up to here is distinct, so is all of it
     pub heard_listed : N ≤ max_number → heard_in literals N [] reply ≡ whole ls → Lists reply ls × Distinct N ls
@@ -82,8 +80,7 @@ module _ (N : ℕ) where
             go (inl q) = eqb-true (says m x) 0 q
             go (inr q) = let z : true ≡ false = rw q at h in absurd (true≢false z)
 
-        takes : (m : List Literal) (on : Bool) (x : ℕ) → x < N → not (eqb (says m x) 0) ≡ false
-            → (Distinct N (valued on x ∷ m) → Distinct N ls)
-            → (Distinct N m → Distinct N ls) × (x < max_number) × (false ≡ false) × (valued on x ∷ m ≡ valued on x ∷ m)
-        takes m true x l h g = (λ d. g (one_more (On x) m l (unsaid m x h) d), omega arith, refl, refl)
-        takes m false x l h g = (λ d. g (one_more (Off x) m l (unsaid m x h) d), omega arith, refl, refl)
+        takes : (m : List Literal) (l : Literal) → place l < N → not (eqb (says m (place l)) 0) ≡ false
+            → (Distinct N (l ∷ m) → Distinct N ls)
+            → (Distinct N m → Distinct N ls) × (place l < max_number) × (false ≡ false) × (l ∷ m ≡ l ∷ m)
+        takes m l h new g = (λ d. g (one_more l m h (unsaid m (place l) new) d), omega arith, refl, refl)

@@ -3,13 +3,16 @@ use mathlib.Core.Path.{◌≡◌, refl}
 use mathlib.Core.Bool.{Bool, true, false, cond}
 use mathlib.Core.Logic.{◌⊎◌, inl, inr}
 use mathlib.Core.List.{List, [], ◌∷◌}
-use Prim.Native.Nat.{ℕ, zero, suc, ◌<◌}
+use Prim.Native.Nat.{ℕ, suc, ◌<◌}
+use Rattle.std.specs.Prelude.{Option, None, Some}
 use native.Mathlib.Omega.{arith}
 use native.Mathlib.Decide.{dec_lt}
 use borrow.Author.Tests.{lt-ltb, le-ltb}
 use lib.ListN.{drop}
 use Rattle.lists.specs.Pieces.{Pieces, last, piece, cut, starts}
 use Rattle.lists.proofs.Logic.{split}
+use Rattle.job.specs.declared.Literal.{Literal}
+use Rattle.job.specs.Literals.{place}
 use Rattle.tokens.specs.declared.Token.{Token}
 use Rattle.tokens.specs.declared.Token.TheVariants.{Bad, Zero, Number}
 use Rattle.tokens.specs.Numbers.{token}
@@ -20,8 +23,8 @@ use Rattle.reply.specs.Reply.{Heard, turned, whole, ended, spoken, started, hear
 
 -- Good is kept from what is heard in the end back to the start; where it holds, B takes what A took
 module _ {S : Type 0} (A B : Store S) (N M : ℕ) (Good : S → Type 0)
-    (takes : (m : S) (on : Bool) (x : ℕ) → x < N → A.has m x ≡ false → Good (A.put m on x)
-    → Good m × (x < M) × (B.has m x ≡ false) × (B.put m on x ≡ A.put m on x)) where
+    (takes : (m : S) (l : Literal) → place l < N → A.has m (place l) ≡ false → Good (A.put m l)
+    → Good m × (place l < M) × (B.has m (place l) ≡ false) × (B.put m l ≡ A.put m l)) where
   abbrev KeptPart : S → Part S → Part S → Type 0
   KeptPart m (fault c m') q = Unit {0}
   KeptPart m (more m') q = Good m' → Good m × (q ≡ more m')
@@ -39,14 +42,17 @@ module _ {S : Type 0} (A B : Store S) (N M : ℕ) (Good : S → Type 0)
   unfolding say_in
   say_kept m Bad = tt
   say_kept m Zero = λ g. (g, refl)
-  say_kept m (Number on x ends) = go (dec_lt x N) (split (A.has m x)) ends
+  say_kept m (Number said ends) = go (dec_lt x N) (split (A.has m x)) ends
     where
+      x : ℕ
+      x = place said
+
       go : Dec (x < N) → (A.has m x ≡ true) ⊎ (A.has m x ≡ false) → (w : Bool)
-          → KeptPart m (say_in A N m (Number on x w)) (say_in B M m (Number on x w))
+          → KeptPart m (say_in A N m (Number said w)) (say_in B M m (Number said w))
       go (no l) h w = rw (le-ltb x N (omega (arith, l))) tt
       go (yes l) (inl h) w = rw (lt-ltb x N l, h) tt
       go (yes l) (inr h) false = rw (lt-ltb x N l, h) tt
-      go (yes l) (inr h) true = rw (lt-ltb x N l, h) λ g. let (g', i, new, same) = takes m on x l h g in (g', rw (lt-ltb x M i, new, same))
+      go (yes l) (inr h) true = rw (lt-ltb x N l, h) λ g. let (g', i, new, same) = takes m said l h g in (g', rw (lt-ltb x M i, new, same))
 
   numbers_kept : (ps : Pieces) (m : S) → KeptPart m (numbers_in A N m ps) (numbers_in B M m ps)
   unfolding numbers_in
@@ -109,10 +115,10 @@ module _ {S : Type 0} (A B : Store S) (N M : ℕ) (Good : S → Type 0)
   unfolding heard_in
   reply_kept m s = go (opening 1 (cut 10 s))
     where
-      end : (m' : S) (t : Told S) (j k : ℕ) (ps : Pieces) → (Good m' → Good m × (t ≡ told k ps m')) → closing k ps ≡ j
+      end : (m' : S) (t : Told S) (j : Option ℕ) (k : ℕ) (ps : Pieces) → (Good m' → Good m × (t ≡ told k ps m')) → closing k ps ≡ j
           → KeptHeard m (ended m' j) (spoken t)
-      end m' t zero k ps h e = λ g. let (g₀, e₀) = h g in (g₀, rw (e₀, e))
-      end m' t (suc j) k ps h e = tt
+      end m' t None k ps h e = λ g. let (g₀, e₀) = h g in (g₀, rw (e₀, e))
+      end m' t (Some j) k ps h e = tt
 
       speak : (p q : Told S) → KeptTold m p q → KeptHeard m (spoken p) (spoken q)
       speak (halted c k m') q h = tt

@@ -2,7 +2,8 @@
 use mathlib.Core.Path.{◌≡◌, refl, ap, ◌∙◌}
 use mathlib.Core.Bool.{Bool, true, false, not, cond}
 use mathlib.Core.List.{List, [], ◌∷◌, ◌++◌}
-use Prim.Native.Nat.{ℕ, zero, suc, ◌<◌}
+use Prim.Native.Nat.{ℕ, suc, ◌<◌}
+use Rattle.std.specs.Prelude.{Option, None, Some}
 use native.Mathlib.Omega.{arith}
 use native.Mathlib.Decide.{dec_lt}
 use borrow.Author.Tests.{lt-ltb, le-ltb}
@@ -13,7 +14,8 @@ use Rattle.lists.specs.Rows.{tab, num}
 use Rattle.lists.specs.Pieces.{Pieces, last, piece, cut, starts}
 use Rattle.lists.proofs.RowLaws.{length_tab, get_d_tab, set_tab}
 use Rattle.job.specs.declared.Literal.{Literal}
-use Rattle.job.specs.Literals.{valued}
+use Rattle.job.specs.declared.Literal.TheVariants.{On, Off}
+use Rattle.job.specs.Literals.{place}
 use Rattle.tokens.specs.declared.Token.{Token}
 use Rattle.tokens.specs.declared.Token.TheVariants.{Bad, Zero, Number}
 use Rattle.tokens.specs.Numbers.{token}
@@ -41,21 +43,24 @@ module _ {S T : Type 0} (h : S → T) where
 -- a store B that has and takes below N what A does hears what A hears
 module _ {S T : Type 0} (A : Store S) (B : Store T) (h : S → T) (N : ℕ)
     (has : (m : S) (x : ℕ) → x < N → B.has (h m) x ≡ A.has m x)
-    (put : (m : S) (on : Bool) (x : ℕ) → x < N → B.put (h m) on x ≡ h (A.put m on x)) where
+    (put : (m : S) (l : Literal) → place l < N → B.put (h m) l ≡ h (A.put m l)) where
   say_same : (m : S) (t : Token) → say_in B N (h m) t ≡ map_part h (say_in A N m t)
   unfolding say_in
   say_same m Bad = refl
   say_same m Zero = refl
-  say_same m (Number on x ends) = go (dec_lt x N)
+  say_same m (Number said ends) = go (dec_lt x N)
     where
+      x : ℕ
+      x = place said
+
       new : (b w : Bool) → x < N
-          → cond b (fault 63 (h m)) (cond w (more (B.put (h m) on x)) (fault 61 (h m)))
-          ≡ map_part h (cond b (fault 63 m) (cond w (more (A.put m on x)) (fault 61 m)))
+          → cond b (fault 63 (h m)) (cond w (more (B.put (h m) said)) (fault 61 (h m)))
+          ≡ map_part h (cond b (fault 63 m) (cond w (more (A.put m said)) (fault 61 m)))
       new true w l = refl
-      new false true l = ap more (put m on x l)
+      new false true l = ap more (put m said l)
       new false false l = refl
 
-      go : Dec (x < N) → say_in B N (h m) (Number on x ends) ≡ map_part h (say_in A N m (Number on x ends))
+      go : Dec (x < N) → say_in B N (h m) (Number said ends) ≡ map_part h (say_in A N m (Number said ends))
       go (yes l) = rw (lt-ltb x N l, has m x l) (new (A.has m x) ends l)
       go (no l) = rw (le-ltb x N (omega (arith, l)))
 
@@ -108,9 +113,9 @@ module _ {S T : Type 0} (A : Store S) (B : Store T) (h : S → T) (N : ℕ)
   unfolding heard_in
   heard_same m s = go (opening 1 (cut 10 s))
     where
-      end : (m : S) (k : ℕ) → ended (h m) k ≡ map_heard h (ended m k)
-      end m zero = refl
-      end m (suc k) = refl
+      end : (m : S) (k : Option ℕ) → ended (h m) k ≡ map_heard h (ended m k)
+      end m None = refl
+      end m (Some k) = refl
 
       speak : (t : Told S) → spoken (map_told h t) ≡ map_heard h (spoken t)
       speak (halted c k m) = refl
@@ -132,12 +137,12 @@ module _ (N : ℕ) (rest : List ℕ) where
   marked_at ls x l =
       get_or-append (tab N (says ls)) rest 0 x (rw (length_tab N (says ls)) l) ∙ get_d_tab N (says ls) x 0 l
 
-  marked_put : (ls : List Literal) (on : Bool) (x : ℕ) → x < N → set (marked ls) x (mark on) ≡ marked (valued on x ∷ ls)
+  marked_put : (ls : List Literal) (said : Literal) → place said < N → set (marked ls) (place said) (mark said) ≡ marked (said ∷ ls)
   unfolding marked says
-  marked_put ls true x l =
+  marked_put ls (On x) l =
       set-append_left (tab N (says ls)) rest x 1 (rw (length_tab N (says ls)) l)
       ∙ ap (λ (a : List ℕ). a ++ rest) (set_tab N (says ls) x 1 l)
-  marked_put ls false x l =
+  marked_put ls (Off x) l =
       set-append_left (tab N (says ls)) rest x 2 (rw (length_tab N (says ls)) l)
       ∙ ap (λ (a : List ℕ). a ++ rest) (set_tab N (says ls) x 2 l)
 

@@ -34,7 +34,7 @@ use Rattle.tokens.specs.declared.Token.TheVariants.{Number}
 use Rattle.tokens.specs.Numbers.{front, decimal, allowed, max_number, unsigned, token}
 use Rattle.tokens.specs.Kinds.{satisfiable}
 use Rattle.tokens.proofs.NumeralLaws.{numeral_token, minus_token}
-use Rattle.reply.specs.Said.{says, literals, mark}
+use Rattle.reply.specs.Said.{says, literals}
 use Rattle.reply.specs.Lines.{opening, Part, more, closed, goes, after, say_in, numbers_in, value_line_in, value_lines_in, closing}
 use Rattle.reply.specs.Reply.{Heard, whole, heard_in, started, spoken, values, truth, missing, values_read}
 use Rattle.reply.specs.Check.{accepted, max_reply, holding, checked}
@@ -44,7 +44,7 @@ use Rattle.reply.proofs.Satisfying.{satisfying_accepted}
 
 -- ---- one number
 
-number_token : (on : Bool) (x : ℕ) → suc x ≤ max_number → token (signed_numeral on x) ≡ Number on x true
+number_token : (on : Bool) (x : ℕ) → suc x ≤ max_number → token (signed_numeral on x) ≡ Number (valued on x) true
 unfolding signed_numeral
 number_token true x l = numeral_token x l
 number_token false x l = minus_token x l
@@ -62,12 +62,16 @@ number_length false x l = omega (arith, length_few 6 (suc x) (omega arith))
 
 -- ---- what the numbers say
 
+abbrev sign : Bool → ℕ
+sign true = 1
+sign false = 2
+
 -- the literals of the values from place x on, the last first, in front of ls
 abbrev literals_from : ℕ → List ℕ → List Literal → List Literal
 literals_from x [] ls = ls
 literals_from x (v ∷ vs) ls = literals_from (suc x) vs (valued (eqb v 1) x ∷ ls)
 
-says_same : (b : Bool) (x : ℕ) (ls : List Literal) → says (valued b x ∷ ls) x ≡ mark b
+says_same : (b : Bool) (x : ℕ) (ls : List Literal) → says (valued b x ∷ ls) x ≡ sign b
 unfolding says
 says_same true x ls = rw (eq-eqb x x refl)
 says_same false x ls = rw (eq-eqb x x refl)
@@ -83,7 +87,7 @@ says_before x (v ∷ vs) ls y l =
     says_before (suc x) vs (valued (eqb v 1) x ∷ ls) y (omega arith) ∙ says_other (eqb v 1) x ls y (λ e. omega arith)
 
 says_at : (x : ℕ) (vs : List ℕ) (ls : List Literal) (i : ℕ) → i < length vs
-    → says (literals_from x vs ls) (x + i) ≡ mark (eqb (num vs i) 1)
+    → says (literals_from x vs ls) (x + i) ≡ sign (eqb (num vs i) 1)
 says_at x [] ls i l = absurd (omega arith)
 says_at x (v ∷ vs) ls zero l =
     ap (says (literals_from x (v ∷ vs) ls)) (add-zero x)
@@ -99,7 +103,8 @@ module _ (N : ℕ) (few : N ≤ max_number) where
   say_number : (b : Bool) (x : ℕ) (ls : List Literal) → x < N → says ls x ≡ 0
       → say_in literals N ls (token (signed_numeral b x)) ≡ more (valued b x ∷ ls)
   unfolding say_in
-  say_number b x ls l none = rw (number_token b x (omega arith), lt-ltb x N l, none)
+  say_number true x ls l none = rw (number_token true x (omega arith), lt-ltb x N l, none)
+  say_number false x ls l none = rw (number_token false x (omega arith), lt-ltb x N l, none)
 
   numbers_say : (x : ℕ) (vs : List ℕ) (ls : List Literal) → x + length vs ≤ N → ((y : ℕ) → x ≤ y → says ls y ≡ 0)
       → numbers_in literals N ls (cut 32 (numbers_from x vs)) ≡ closed (literals_from x vs ls)
@@ -140,12 +145,12 @@ plain_heard N few vs l =
 
 -- ---- the values
 
-truth_mark : (v : ℕ) → v ≤ 1 → truth (mark (eqb v 1)) ≡ v
+truth_mark : (v : ℕ) → v ≤ 1 → truth (sign (eqb v 1)) ≡ v
 truth_mark zero l = refl
 truth_mark (suc zero) l = refl
 truth_mark (suc (suc v)) l = absurd (omega arith)
 
-mark_some : (b : Bool) → not (eqb (mark b) 0) ≡ true
+mark_some : (b : Bool) → not (eqb (sign b) 0) ≡ true
 mark_some true = refl
 mark_some false = refl
 
@@ -153,7 +158,7 @@ module _ (N : ℕ) (vs : List ℕ) (v : Values N vs) where
   abbrev said : ℕ → ℕ
   said = says (literals_from 0 vs [])
 
-  said_at : (x : ℕ) → x < N → said x ≡ mark (eqb (num vs x) 1)
+  said_at : (x : ℕ) → x < N → said x ≡ sign (eqb (num vs x) 1)
   said_at x l = let k : x < length vs = omega (arith, v.long) in ap said (sym (zero-add x)) ∙ says_at 0 vs [] x k
 
   all_said : missing N said ≡ N

@@ -6,7 +6,7 @@ use mathlib.Core.List.{List, [], ◌++◌}
 use Prim.Native.Nat.{ℕ, suc, ◌+◌, ◌-◌, ◌≤◌, ◌<◌}
 use native.Mathlib.Omega.{arith}
 use native.Mathlib.Numerals.{add-one}
-use borrow.Author.Tests.{lt-ltb, le-ltb, ltb-false}
+use borrow.Author.Tests.{lt-ltb, le-ltb, ltb-true, ltb-false}
 use lib.Dec.{eqb, ltb}
 use lib.ListN.{length, drop}
 use lib.Seq.{drop_at, drop-append-add, drop-drop}
@@ -15,16 +15,30 @@ use Rattle.lists.proofs.Logic.{split}
 use Rattle.lists.proofs.RowLaws.{length_tab, get_d_tab, tab_same}
 use Rattle.lists.proofs.PlaceLaws.{first_most, first_same}
 use Rattle.job.specs.declared.Literal.{Literal}
-use Rattle.reply.specs.declared.Place.{Place}
-use Rattle.reply.specs.declared.Place.TheVariants.{Halt, At}
+use Rattle.job.specs.declared.refusal.Refusal.{Refusal}
+use Rattle.job.specs.Faults.{number_of}
+use Rattle.std.proofs.lemmas.List.{length-replicate, get_or-replicate}
+use Rattle.std.proofs.Common.{Result, Ok, Err, None, Some, replicate, append-nil, ext_get_or, drop_of_length-le}
 use Rattle.reply.specs.Said.{says, literals, marks}
 use Rattle.reply.specs.Reply.{Heard, turned, whole, heard_in, refusal, values, truth, missing, completed, values_read}
 use Rattle.reply.specs.Check.{accepted, refused, blank}
-use Rattle.reply.specs.Answers.{settled, heard_of, cleaned}
+use Rattle.reply.specs.Answers.{settled, heard_of, gap, cleaned}
 use Rattle.reply.proofs.MarkLaws.{map_heard, marked, marked_at, heard_marked}
 
+-- the whole buffer filled with zeros
+pub filled : (work w : List ℕ) → w ≡ replicate {A = ℕ} (length work) 0 → w ≡ blank (length work) work
+filled work w e =
+    let N = length work in
+    let zeros : List ℕ = tab N (λ x. 0) in
+    e ∙ all N ∙ sym (append-nil zeros) ∙ ap (λ rest. zeros ++ rest) (sym (drop_of_length-le work (omega arith)))
+  where
+    all : (k : ℕ) → replicate {A = ℕ} k 0 ≡ tab k (λ x. 0)
+    all k = ext_get_or 0 (replicate k 0) (tab k (λ x. 0)) (length-replicate k 0 ∙ sym (length_tab k (λ x. 0))) λ i l.
+        let l' : i < k = omega (arith, length-replicate {A = ℕ} k 0) in
+        get_or-replicate k i 0 0 l' ∙ sym (get_d_tab k (λ x. 0) i 0 l')
+
 -- in a buffer of zeros the marks hear what the literals hear
-pub hears : (N : ℕ) (s work w : List ℕ) → w ≡ blank N work → heard_in marks N w s
+hears : (N : ℕ) (s work w : List ℕ) → w ≡ blank N work → heard_in marks N w s
     ≡ map_heard (marked N (drop N work)) (heard_in literals N [] s)
 unfolding marked says
 hears N s work w e =
@@ -56,51 +70,94 @@ module _ (N : ℕ) (work w : List ℕ) (ls : List Literal) (e : w ≡ marked N (
   same_values : cleaned N w ≡ tab N (λ x. truth (says ls x)) ++ drop N work
   same_values = rw (rest_kept, tab_same N (λ x. truth (num w x)) (λ x. truth (says ls x)) (λ x l. ap truth (mark_is x l)))
 
--- h and w are what was heard, with the marks; H is what the literals heard
-module _ (N : ℕ) (work w : List ℕ) (h : Place) (H : Heard (List Literal))
-    (heard : heard_of h w ≡ map_heard (marked N (drop N work)) H) where
-  pub a_fault : (c k : ℕ) → h ≡ Halt c k → (w' : List ℕ) → w' ≡ blank N w → refused c k w' ≡ settled N work (completed N H)
-  a_fault c k e w' b = b' ∙ go H (rw e at heard)
-    where
-      b' : refused c k w' ≡ refused c k (blank N w)
-      b' = ap (refused c k) b
+-- ---- the first number of which nothing is said
 
-      go : (H : Heard (List Literal)) → turned c k w ≡ map_heard (marked N (drop N work)) H → refused c k (blank N w)
-          ≡ settled N work (completed N H)
-      go (turned c' k' ls) p =
+gap_some : (N y x : ℕ) → Some x ≡ gap N y → (x ≡ y) × (y < N)
+gap_some N y x e = go (split (ltb y N))
+  where
+    go : (ltb y N ≡ true) ⊎ (ltb y N ≡ false) → (x ≡ y) × (y < N)
+    go (inl h) = let f : Some x ≡ Some y = rw h at e in (cc, ltb-true y N h)
+    go (inr h) = let f : Some x ≡ None = rw h at e in let z : ◌≡◌ {A = ℕ} 0 1 = cc in absurd (omega arith)
+
+gap_none : (N y : ℕ) → None ≡ gap N y → N ≤ y
+gap_none N y e = go (split (ltb y N))
+  where
+    go : (ltb y N ≡ true) ⊎ (ltb y N ≡ false) → N ≤ y
+    go (inl h) = let f : None ≡ Some y = rw h at e in let z : ◌≡◌ {A = ℕ} 0 1 = cc in absurd (omega arith)
+    go (inr h) = ltb-false y N h
+
+-- ---- the buffer is cleared to z; h and w are what was heard in the reply s, with the marks
+
+module _ (s work z w : List ℕ) (cleared : z ≡ blank (length work) work) (long : length z ≡ length work) (as_long : length w ≡ length z)
+    {T : Type 0} (h : Result T Refusal) (answer : heard_of h w ≡ heard_in marks (length z) z s) where
+  abbrev N : ℕ
+  N = length work
+
+  abbrev H : Heard (List Literal)
+  H = heard_in literals N [] s
+
+  heard : heard_of h w ≡ map_heard (marked N (drop N work)) H
+  heard = answer ∙ ap (λ n. heard_in marks n z s) long ∙ hears N s work z cleared
+
+  same_long : length w ≡ N
+  same_long = as_long ∙ long
+
+  pub a_fault : (r : Refusal) → h ≡ Err r → (w' : List ℕ) → w' ≡ blank (length w) w
+      → refused (number_of r.fault) r.place w' ≡ settled N work (values_read N s)
+  unfolding values_read
+  a_fault r e w' b = ap (refused (number_of r.fault) r.place) (b ∙ ap (λ n. blank n w) same_long) ∙ go H (rw e at heard)
+    where
+      go : (H : Heard (List Literal)) → turned (number_of r.fault) r.place w ≡ map_heard (marked N (drop N work)) H
+          → refused (number_of r.fault) r.place (blank N w) ≡ settled N work (completed N H)
+      go (turned c k ls) p =
           let m : w ≡ marked N (drop N work) ls = cc in
-          let same : c ≡ c' = cc in
-          let line : k ≡ k' = cc in
+          let same : number_of r.fault ≡ c = cc in
+          let line : r.place ≡ k = cc in
           rw (rest_kept N work w ls m, same, line)
       go (whole ls) p = let z : ◌≡◌ {A = ℕ} 0 1 = cc in absurd (omega arith)
 
-  module _ (i k : ℕ) (e : h ≡ At i k) (x : ℕ) (found : x ≡ missing N (num w)) (w' : List ℕ) (clean : w' ≡ cleaned x w) where
-    pub a_gap : x < N → (w'' : List ℕ) → w'' ≡ blank N w' → refused 64 (x + 1) w'' ≡ settled N work (completed N H)
-    a_gap l w'' b = ap (refused 64 (x + 1)) (b ∙ kept) ∙ go H (rw e at heard)
+  module _ (v : T) (e : h ≡ Ok v) (w' : List ℕ) (settles : w' ≡ cleaned (missing (length w) (num w)) w) (still : length w' ≡ length w) where
+    clean : w' ≡ cleaned (missing N (num w)) w
+    clean = settles ∙ ap (λ n. cleaned (missing n (num w)) w) same_long
+
+    pub a_gap : (x : ℕ) → Some x ≡ gap (length w) (missing (length w) (num w)) → (w'' : List ℕ) → w'' ≡ blank (length w') w'
+        → refused 64 (x + 1) w'' ≡ settled N work (values_read N s)
+    unfolding values_read
+    a_gap x found w'' b =
+        ap (refused 64 (x + 1)) (b ∙ ap (λ n. blank n w') (still ∙ same_long) ∙ kept) ∙ go H (rw e at heard)
       where
+        at_gap : (x ≡ missing N (num w)) × (missing N (num w) < N)
+        at_gap = gap_some N (missing N (num w)) x (found ∙ ap (λ n. gap n (missing n (num w))) same_long)
+
         kept : blank N w' ≡ blank N w
-        kept = rw clean (ap (λ (r : List ℕ). tab N (λ y. 0) ++ r) (drop_row N x (λ y. truth (num w y)) w (omega arith)))
+        kept =
+            let y = missing N (num w) in
+            let l : y ≤ N = first_most (λ i. eqb (num w i) 0) N in
+            rw clean (ap (λ (r : List ℕ). tab N (λ i. 0) ++ r) (drop_row N y (λ i. truth (num w i)) w l))
 
         go : (H : Heard (List Literal)) → whole w ≡ map_heard (marked N (drop N work)) H → refused 64 (x + 1) (blank N w)
             ≡ settled N work (completed N H)
         go (turned c k ls) p = let z : ◌≡◌ {A = ℕ} 0 1 = cc in absurd (omega arith)
         go (whole ls) p =
             let m : w ≡ marked N (drop N work) ls = cc in
-            let t : x ≡ missing N (says ls) = found ∙ same_missing N work w ls m in
-            rw (← t, lt-ltb x N l, rest_kept N work w ls m, add-one x)
+            let t : x ≡ missing N (says ls) = at_gap.0 ∙ same_missing N work w ls m in
+            rw (← t, lt-ltb x N (omega (arith, at_gap)), rest_kept N work w ls m, add-one x)
 
-    pub all_said : N ≤ x → accepted w' ≡ settled N work (completed N H)
-    all_said l = go H (rw e at heard)
+    pub all_said : None ≡ gap (length w) (missing (length w) (num w)) → accepted w' ≡ settled N work (values_read N s)
+    unfolding values_read
+    all_said none = go H (rw e at heard)
       where
         go : (H : Heard (List Literal)) → whole w ≡ map_heard (marked N (drop N work)) H → accepted w' ≡ settled N work (completed N H)
         go (turned c k ls) p = let z : ◌≡◌ {A = ℕ} 0 1 = cc in absurd (omega arith)
         go (whole ls) p =
             let m : w ≡ marked N (drop N work) ls = cc in
-            let t : x ≡ missing N (says ls) = found ∙ same_missing N work w ls m in
-            let all : x ≡ N = omega (arith, found, first_most (λ y. eqb (num w y) 0) N) in
+            let y = missing N (num w) in
+            let t : missing N (says ls) ≡ y = sym (same_missing N work w ls m) in
+            let l : N ≤ y = gap_none N y (none ∙ ap (λ n. gap n (missing n (num w))) same_long) in
+            let all : y ≡ N = omega (arith, first_most (λ i. eqb (num w i) 0) N) in
             let v : w' ≡ tab N (λ y. truth (says ls y)) ++ drop N work = clean ∙ ap (λ (n : ℕ). cleaned n w) all
             ∙ same_values N work w ls m in
-            rw (← t, le-ltb x N l, v)
+            rw (t, le-ltb y N l, v)
 
 -- ---- values that are read: the literals that were heard give them, none is missing
 

@@ -6,7 +6,7 @@ use Rattle.lists.specs.Tests.{every}
 use Rattle.job.specs.declared.Job.{Job}
 use Rattle.job.specs.declared.Literal.{Literal}
 use Rattle.job.specs.declared.Literal.TheVariants.{On}
-use Rattle.job.specs.Literals.{Clause, place, valued, has}
+use Rattle.job.specs.Literals.{Clause, place, has}
 use Rattle.job.specs.Numbering.{total}
 use Rattle.job.specs.Clauses.{clauses}
 use Rattle.job.specs.InRange.{Below}
@@ -21,7 +21,7 @@ use Rattle.reply.specs.Check.{accepted, max_reply, holding, checked}
 
 -- every number is taken, also one past N and one that came before: no 62 and no 63
 abbrev pub unchecked : Store (List Literal)
-unchecked = record { has = λ ls x. false; put = λ ls on x. valued on x ∷ ls }
+unchecked = record { has = λ ls x. false; put = λ ls l. l ∷ ls }
 
 -- the reply has 01's form and lists these literals, the last first; 'at most 7 digits' are at most max_number
 abbrev pub Lists : List ℕ → List Literal → Type 0

@@ -1,21 +1,17 @@
 -- What the answers of the code mean: number, place and values for each case.
-use Rattle.std.specs.Prelude.{List, ◌++◌, ℕ, suc, ◌≤◌, length, drop}
+use Rattle.std.specs.Prelude.{cond, List, ◌++◌, Option, None, Some, Result, Ok, Err, ℕ, ltb, drop}
 use Rattle.lists.specs.Rows.{tab, num}
 use Rattle.lists.specs.Pieces.{cut}
-use Rattle.reply.specs.declared.Checked.{Checked}
-use Rattle.reply.specs.declared.Checked.TheVariants.{Accepted, Refused}
-use Rattle.reply.specs.declared.Numbers.{Numbers}
-use Rattle.reply.specs.declared.Numbers.TheVariants.{Fault, More, Closed}
-use Rattle.reply.specs.declared.Place.{Place}
-use Rattle.reply.specs.declared.Place.TheVariants.{Halt, At}
+use Rattle.job.specs.declared.refusal.Fault.{Fault}
+use Rattle.job.specs.declared.refusal.Refusal.{Refusal}
+use Rattle.job.specs.Faults.{number_of}
+use Rattle.reader.specs.declared.Reader.{Reader}
+use Rattle.reader.specs.Reader.{ahead}
+use Rattle.reply.specs.declared.Progress.{Progress}
+use Rattle.reply.specs.declared.Progress.TheVariants.{More, Closed}
 use Rattle.reply.specs.Lines.{Opened, stopped, begun, Part, fault, more, closed, Told, halted, told}
 use Rattle.reply.specs.Reply.{Heard, turned, whole, Read, refusal, values, truth}
 use Rattle.reply.specs.Check.{Outcome, accepted, refused, blank, holding}
-
--- the open call's answer with the buffer that it leaves
-abbrev pub outcome : Checked → List ℕ → Outcome
-outcome Accepted work = accepted work
-outcome (Refused r) work = refused r.number r.place work
 
 -- the answer while clauses are not looked at yet: a refusal of the reply, or its values in the buffer
 abbrev pub settled : ℕ → List ℕ → Read → Outcome
@@ -23,29 +19,35 @@ settled N work (refusal c k) = refused c k (blank N work)
 settled N work (values vs) = accepted (holding N work vs)
 
 -- a number or a line of them, with the marks so far
-abbrev pub part_of : Numbers → List ℕ → Part (List ℕ)
-part_of (Fault c) m = fault c m
-part_of More m = more m
-part_of Closed m = closed m
+abbrev pub part_of : Result Progress Fault → List ℕ → Part (List ℕ)
+part_of (Err f) m = fault (number_of f) m
+part_of (Ok More) m = more m
+part_of (Ok Closed) m = closed m
 
--- where reading stands: the byte and the line that come next in s
-abbrev pub opened_of : List ℕ → Place → Opened
-opened_of s (Halt c k) = stopped c k
-opened_of s (At i k) = begun k (cut 10 (drop i s))
-
-abbrev pub told_of : List ℕ → List ℕ → Place → Told (List ℕ)
-told_of s m (Halt c k) = halted c k m
-told_of s m (At i k) = told k (cut 10 (drop i s)) m
-
-abbrev pub heard_of : Place → List ℕ → Heard (List ℕ)
-heard_of (Halt c k) m = turned c k m
-heard_of (At i k) m = whole m
-
--- a place in the text; a line has at least its LF
-abbrev pub inside : List ℕ → Place → Type 0
-inside s (Halt c k) = Unit {0}
-inside s (At i k) = (i ≤ length s) × (k ≤ suc i)
+-- the first number of which nothing is said, where there is one below N
+abbrev pub gap : ℕ → ℕ → Option ℕ
+gap N missing = cond (ltb missing N) (Some missing) None
 
 -- the first x marks turned into values
 abbrev pub cleaned : ℕ → List ℕ → List ℕ
 cleaned x m = tab x (λ i. truth (num m i)) ++ drop x m
+
+-- answers that have nothing to give but their refusal
+module _ {T : Type 0} where
+  -- the open call's answer with the buffer that it leaves
+  abbrev pub outcome : Result T Refusal → List ℕ → Outcome
+  outcome (Ok _) work = accepted work
+  outcome (Err r) work = refused (number_of r.fault) r.place work
+
+  -- where the reader stands then: the line that comes next and all that follows
+  abbrev pub opened_of : Result T Refusal → Reader → Opened
+  opened_of (Ok _) reader = begun reader.line (cut 10 (ahead reader))
+  opened_of (Err r) reader = stopped (number_of r.fault) r.place
+
+  abbrev pub told_of : Result T Refusal → Reader → List ℕ → Told (List ℕ)
+  told_of (Ok _) reader m = told reader.line (cut 10 (ahead reader)) m
+  told_of (Err r) reader m = halted (number_of r.fault) r.place m
+
+  abbrev pub heard_of : Result T Refusal → List ℕ → Heard (List ℕ)
+  heard_of (Ok _) m = whole m
+  heard_of (Err r) m = turned (number_of r.fault) r.place m

@@ -1,7 +1,8 @@
 -- The lines of a reply (document 01, 'Calls and buffers', Checking): 'Lines that begin `c` are skipped anywhere; then one
 -- `s SATISFIABLE`, then lines of `v` and one or more numbers .. ; a single 0 ends the last; only `c` lines follow.'
-use Rattle.std.specs.Prelude.{Bool, cond, List, [], ◌∷◌, ℕ, suc, ltb, drop}
+use Rattle.std.specs.Prelude.{Bool, cond, List, [], ◌∷◌, Option, None, Some, ℕ, suc, ltb, drop}
 use Rattle.lists.specs.Pieces.{Pieces, last, piece, cut, starts, is}
+use Rattle.job.specs.Literals.{place}
 use Rattle.tokens.specs.declared.Token.{Token}
 use Rattle.tokens.specs.declared.Token.TheVariants.{Bad, Zero, Number}
 use Rattle.tokens.specs.Numbers.{token}
@@ -62,8 +63,8 @@ module _ {S : Type 0} (st : Store S) (N : ℕ) where
   unfoldable pub say_in : S → Token → Part S
   say_in m Bad = fault 61 m
   say_in m Zero = closed m
-  say_in m (Number on x whole) =
-      cond (ltb x N) (cond (st.has m x) (fault 63 m) (cond whole (more (st.put m on x)) (fault 61 m))) (fault 62 m)
+  say_in m (Number l whole) =
+      cond (ltb (place l) N) (cond (st.has m (place l)) (fault 63 m) (cond whole (more (st.put m l)) (fault 61 m))) (fault 62 m)
 
   -- the words behind `v `, left to right
   unfoldable pub numbers_in : S → Pieces → Part S
@@ -82,9 +83,9 @@ module _ {S : Type 0} (st : Store S) (N : ℕ) where
       let line = after k (value_line_in m p) ps (λ m'. value_lines_in (suc k) m' ps) in
       cond (comment p) next line
 
--- ---- 'only `c` lines follow': 0, or the line that is none
+-- ---- 'only `c` lines follow': the first line that is none, where there is one
 
-unfoldable pub closing : ℕ → Pieces → ℕ
-closing k (last []) = 0
-closing k (last (b ∷ bs)) = k
-closing k (piece p ps) = let next = closing (suc k) ps in cond (comment p) next k
+unfoldable pub closing : ℕ → Pieces → Option ℕ
+closing k (last []) = None
+closing k (last (b ∷ bs)) = Some k
+closing k (piece p ps) = let next = closing (suc k) ps in cond (comment p) next (Some k)

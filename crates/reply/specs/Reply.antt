@@ -1,5 +1,5 @@
 -- A whole reply: its values, or the number and place of a refusal of 61 to 64 or 66.
-use Rattle.std.specs.Prelude.{cond, List, [], ℕ, zero, suc, eqb, ltb}
+use Rattle.std.specs.Prelude.{cond, List, [], Option, None, Some, ℕ, suc, eqb, ltb}
 use Rattle.lists.specs.Rows.{tab}
 use Rattle.lists.specs.Places.{first}
 use Rattle.lists.specs.Pieces.{Pieces, cut}
@@ -14,9 +14,9 @@ pub data Heard (S : Type 0) : Type 0 where
   whole : S → Heard S
 
 module _ {S : Type 0} where
-  abbrev pub ended : S → ℕ → Heard S
-  ended m zero = whole m
-  ended m (suc k) = turned 61 (suc k) m
+  abbrev pub ended : S → Option ℕ → Heard S
+  ended m None = whole m
+  ended m (Some k) = turned 61 k m
 
   abbrev pub spoken : Told S → Heard S
   spoken (halted c k m) = turned c k m

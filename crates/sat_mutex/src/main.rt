@@ -14,42 +14,33 @@ use outputs::dimacs::{Piece, next_piece, opening};
 use std::io;
 use std::io::Print;
 
-// Piece by piece while clauses are left. A piece is never empty, so that the loop ends at the last clause alone.
+// Piece by piece while clauses are left. A piece says itself how many it has, and never none, so that the loop ends at the last one alone.
 fn print_pieces<P: Print>(out: &P, j: Job, count: usize, text: &mut [u8]) -> io::Result<()>
     requires { (fit j ≡ true) × (count ≡ length (clauses j)) × (least_room * number_room ≤ length text.old) }
 {
     let mut left = count;
     while 0 < left {
         let p = next_piece(j, count - left + 1, &mut *text);
-        let n = p.length;
-        out.write_all(&text[..n])?;
+        out.write_all(&text[..p.length])?;
         left -= p.clauses;
     }
     Ok(())
 }
 
-fn print_clauses<P: Print>(out: &P, j: Job, count: usize) -> io::Result<()>
-    requires { 0 < count → (fit j ≡ true) × (count ≡ length (clauses j)) }
-{
-    if 0 < count {
-        let mut text = [0u8; Piece::TEXT];
-        print_pieces(out, j, count, &mut text)
-    } else {
-        Ok(())
-    }
-}
-
 fn print_all<P: Print>(out: &P, text: &[u8]) -> io::Result<()> {
     let opened = opening(text);
-    let text = opened.text;
-    let length = opened.length;
-    out.write_all(&text[..length])?;
-    print_clauses(out, opened.job, opened.clauses)
+    out.write_all(opened.text.bytes())?;
+    let Some(following) = opened.following else {
+        return Ok(());
+    };
+    let mut text = [0u8; Piece::TEXT];
+    print_pieces(out, following.fit.job, following.clauses, &mut text)
 }
 
 fn main(rt: HostRuntime) {
     // One byte more than a job may have, so that a longer one is seen.
     let mut space = [0u8; Job::TEXT + 1];
-    let n = read_full(&mut rt.stdin(), &mut space);
+    // A read that fails ends the job.
+    let n = read_full(&mut rt.stdin(), &mut space).count;
     let _ = print_all(&rt, &space[..n]);
 }

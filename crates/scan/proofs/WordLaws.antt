@@ -1,19 +1,23 @@
--- Laws of words: where one ends, which part of the line it is, and one law for each way out of a loop over bytes.
-use mathlib.Core.Path.{◌≡◌, sym, ap, ◌∙◌}
-use mathlib.Core.Bool.{Bool, true, false, ◌&&◌}
+-- Laws of words: where one ends, which part of the line it is, and the same by the library's words.
+use mathlib.Core.Path.{◌≡◌, refl, sym, ap, ◌∙◌}
+use mathlib.Core.Bool.{Bool, true, false, not, cond, ◌&&◌}
+use Rattle.std.specs.List.{take_while, starts_with}
+use Rattle.std.proofs.lemmas.List.Sums.{take_while-cons}
 use mathlib.Core.List.{List, [], ◌∷◌}
-use Prim.Native.Nat.{ℕ, zero, suc, ◌+◌, ◌-◌, ◌≤◌, ◌<◌}
+use Prim.Native.Nat.{ℕ, min, zero, suc, ◌+◌, ◌-◌, ◌≤◌, ◌<◌}
 use native.Mathlib.Omega.{arith}
-use native.Mathlib.Decide.{dec_lt}
+use native.Mathlib.Decide.{dec_lt, ℕ_discrete}
 use native.Mathlib.Nat.{zero-add, suc-add}
 use borrow.Author.Tests.{eq-eqb, ne_eqb}
-use lib.Dec.{eqb}
-use lib.ListN.{length, get_or, drop, take, drop_of_length-le, length-drop, length-take, get_or-eq_default}
-use lib.Seq.{get_or-drop, get_or-take, take-nil, drop-cons, slice}
+use lib.Dec.{eqb, eqb-suc-suc}
+use lib.Pointwise.{pointwise}
+use Rattle.lists.proofs.Logic.{and_no}
+use lib.ListN.{length, drop, take, drop_of_length-le, length-drop, get_or-eq_default}
+use lib.Seq.{take-nil, take-length, slice}
 use Rattle.lists.specs.Rows.{num}
-use Rattle.lists.specs.Pieces.{up_to, starts}
+use Rattle.lists.specs.Pieces.{is, up_to, starts}
 use Rattle.lists.proofs.PieceLaws.{length_up_to, take_up_to}
-use Rattle.scan.specs.Bytes.{word_at, all_of}
+use Rattle.scan.specs.Bytes.{word_at}
 
 -- ---- a byte
 
@@ -30,19 +34,6 @@ byte_in s i h = go (dec_lt i (length s))
 
 -- ---- where a word ends
 
-module _ (stop : ℕ) (s : List ℕ) (e : ℕ) where
-  pub end_out : length s ≤ e → length (word_at stop s e) ≡ 0
-  unfolding up_to
-  end_out h = rw (drop_of_length-le s h)
-
-  pub end_stop : e < length s → get_or s e 0 ≡ stop → length (word_at stop s e) ≡ 0
-  unfolding up_to
-  end_stop h k = rw (drop-cons s e 0 h, eq-eqb (get_or s e 0) stop k)
-
-  pub end_more : e < length s → (get_or s e 0 ≡ stop → ⊥) → length (word_at stop s e) ≡ suc (length (word_at stop s (suc e)))
-  unfolding up_to
-  end_more h k = rw (drop-cons s e 0 h, ne_eqb (get_or s e 0) stop k)
-
 drop_take : (f n : ℕ) (s : List ℕ) → drop f (take (f + n) s) ≡ take n (drop f s)
 drop_take zero n s = ap (λ (k : ℕ). take k s) (zero-add n)
 drop_take (suc f) n [] = ap (λ (l : List ℕ). drop (suc f) l) (take-nil (suc f + n)) ∙ sym (take-nil n)
@@ -56,46 +47,52 @@ module _ (stop : ℕ) (s : List ℕ) (from to : ℕ) (h : to ≡ from + length (
   pub word_fits : to - from ≤ length s - from
   word_fits = omega (arith, length_up_to stop (drop from s), length-drop from s)
 
--- ---- a byte of a part
+-- ---- the same by the library's words
 
-module _ (s : List ℕ) (from to j : ℕ) where
-  pub part_none : to ≤ from → 0 ≡ num (slice from to s) j
-  part_none h =
-      ap (λ (l : List ℕ). num l j)
-      (sym (drop_of_length-le (take to s) {i = from} (omega (arith, length-take to s))))
+eqb_swap : (a b : ℕ) → eqb a b ≡ eqb b a
+eqb_swap a b = go (ℕ_discrete a b)
+  where
+    go : Dec (a ≡ b) → eqb a b ≡ eqb b a
+    go (yes e) = eq-eqb a b e ∙ sym (eq-eqb b a (sym e))
+    go (no e) = ne_eqb a b e ∙ sym (ne_eqb b a (λ x. e (sym x)))
 
-  pub part_past : to - from ≤ j → 0 ≡ num (slice from to s) j
-  part_past h = byte_out (slice from to s) j (omega (arith, length-drop from (take to s), length-take to s))
+pub passed_over : (stop : ℕ) (s : List ℕ) → up_to stop s ≡ take_while (λ b. not (eqb b stop)) s
+unfolding up_to
+passed_over stop [] = refl
+passed_over stop (b ∷ bs) = go (eqb b stop) (passed_over stop bs) ∙ sym (take_while-cons (λ x. not (eqb x stop)) b bs)
+  where
+    go : (t : Bool) → up_to stop bs ≡ take_while (λ x. not (eqb x stop)) bs
+        → cond t [] (b ∷ up_to stop bs) ≡ cond (not t) (b ∷ take_while (λ x. not (eqb x stop)) bs) []
+    go true e = refl
+    go false e = ap (λ l. b ∷ l) e
 
-  pub part_out : length s ≤ from + j → 0 ≡ num (slice from to s) j
-  part_out h = byte_out (slice from to s) j (omega (arith, length-drop from (take to s), length-take to s))
+pub starts_is : (w s : List ℕ) → starts w s ≡ starts_with eqb s w
+unfolding starts
+starts_is [] s = refl
+starts_is (x ∷ xs) [] = refl
+starts_is (x ∷ xs) (b ∷ bs) = rw (starts_is xs bs, eqb_swap b x)
 
-  pub part_in : from + j < to → num s (from + j) ≡ num (slice from to s) j
-  part_in h = sym (get_or-drop from (take to s) j 0 ∙ get_or-take to s (from + j) 0 h)
+-- a text is the word when the library finds them equal
+pub is_equal : (w s : List ℕ) → is w s ≡ pointwise eqb s w
+unfolding is starts
+is_equal [] [] = refl
+is_equal [] (b ∷ bs) = rw (ne_eqb (suc (length bs)) 0 (λ e. omega arith))
+is_equal (x ∷ xs) [] = and_no (eqb 0 (suc (length xs)))
+is_equal (x ∷ xs) (b ∷ bs) =
+    rw (eqb-suc-suc (length bs) (length xs))
+    (swap (eqb (length bs) (length xs)) (eqb b x) (starts xs bs) ∙ ap (λ t. eqb b x && t) (is_equal xs bs))
+  where
+    swap : (p q t : Bool) → (p && (q && t)) ≡ (q && (p && t))
+    swap true q t = refl
+    swap false q t = sym (and_no q)
 
--- ---- all bytes from a place on
+-- what is left from a column on, which past the line's end is nothing
+pub rest_from : (column m : ℕ) (s : List ℕ) → m ≡ min column (length s) → take (length s - m) (drop m s) ≡ drop column s
+rest_from column m s e = whole ∙ go (dec_lt column (length s))
+  where
+    whole : take (length s - m) (drop m s) ≡ drop m s
+    whole = ap (λ (n : ℕ). take n (drop m s)) (sym (length-drop m s)) ∙ take-length (drop m s)
 
-module _ (f : ℕ → Bool) (s : List ℕ) (i : ℕ) where
-  pub all_at : i < length s → all_of f (drop i s) ≡ (f (get_or s i 0) && all_of f (drop (suc i) s))
-  unfolding all_of
-  all_at h = rw (drop-cons s i 0 h)
-
-  pub all_end : length s ≤ i → all_of f (drop i s) ≡ true
-  unfolding all_of
-  all_end h = ap (all_of f) (drop_of_length-le s {i = i} h)
-
--- ---- a fixed word
-
-module _ (w s : List ℕ) (i p : ℕ) where
-  pub starts_step : i < length w → p < length s
-      → starts (drop i w) (drop p s) ≡ (eqb (get_or s p 0) (get_or w i 0) && starts (drop (suc i) w) (drop (suc p) s))
-  unfolding starts
-  starts_step h k = rw (drop-cons w i 0 h, drop-cons s p 0 k)
-
-  pub starts_out : i < length w → length s ≤ p → starts (drop i w) (drop p s) ≡ false
-  unfolding starts
-  starts_out h k = rw (drop-cons w i 0 h, drop_of_length-le s {i = p} k)
-
-  pub starts_done : length w ≤ i → starts (drop i w) (drop p s) ≡ true
-  unfolding starts
-  starts_done h = rw (drop_of_length-le w {i = i} h)
+    go : Dec (column < length s) → drop m s ≡ drop column s
+    go (yes h) = let same : m ≡ column = omega arith in rw same
+    go (no h) = drop_of_length-le s {i = m} (omega arith) ∙ sym (drop_of_length-le s {i = column} (omega arith))

@@ -1,5 +1,6 @@
 -- Words and the bytes they are made of (document 01, 'The job text').
-use Rattle.std.specs.Prelude.{ℕ, Bool, true, false, ◌&&◌, ◌||◌, List, [], ◌∷◌, drop}
+use Rattle.std.specs.Prelude.{ℕ, Bool, false, ◌&&◌, ◌||◌, List, [], ◌∷◌, drop}
+use Rattle.std.specs.List.{list_all}
 use Rattle.lists.specs.Tests.{within}
 use Rattle.lists.specs.Pieces.{up_to}
 
@@ -8,8 +9,7 @@ abbrev pub word_at : ℕ → List ℕ → ℕ → List ℕ
 word_at stop s column = up_to stop (drop column s)
 
 unfoldable pub all_of : (ℕ → Bool) → List ℕ → Bool
-all_of f [] = true
-all_of f (b ∷ bs) = f b && all_of f bs
+all_of f s = list_all f s
 
 -- 'letters or digits'
 unfoldable pub alnum : ℕ → Bool

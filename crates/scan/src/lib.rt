@@ -1,55 +1,59 @@
 // Bytes, lines, words and the scan for a name. Every function is total: past its end a text has zeros.
 #![tactic(auto)]
 
-ghost use Rattle.std.specs.Prelude.{◌≡◌, ◌+◌, ◌*◌, ◌<◌, length, drop};
+ghost use Rattle.std.specs.Prelude.{◌≡◌, ◌+◌, ◌*◌, ◌<◌, IfSome, ◌==◌, not, length, drop};
+ghost use Rattle.std.specs.List.{take_while};
 ghost use Rattle.std.proofs.Math.Seq.{slice};
 ghost use Rattle.lists.specs.Rows.{num};
+ghost use Rattle.lists.specs.Tests.{within as is_within};
 ghost use Rattle.lists.specs.Pieces.{starts};
 ghost use Rattle.scan.specs.Bytes.{word_at, plain as plain_bytes};
 ghost use Rattle.scan.specs.Names.{lookup};
 
-// Where a name stands among others, counted from 0.
-#[derive(Clone, Copy)]
-pub enum Found {
-    At(usize),
-    Nothing,
-}
+use lists::get_or;
 
-// Byte i, and 0 past the end.
-pub fn byte_at(s: &[u8], i: usize) -> u8
-    ensures { result ≡ num s.now i }
+// The same as a range's `contains`, said by the definition.
+#[tactic(auto, unfolding(lists::specs::Tests::within, lists::specs::Tests::every))]
+pub fn within(byte: u8, lo: u8, hi: u8) -> bool
+    ensures { result ≡ is_within lo hi byte }
 {
-    if i < s.len() { s[i] } else { 0 }
+    (lo..=hi).contains(&byte)
 }
 
-// Where the word that starts at from ends: at the first stop, or at the line's end.
+// What is left of a text from a column on; past its end, nothing.
+pub fn rest(s: &[u8], column: usize) -> &[u8]
+    ensures { result.now ≡ drop column s.now }
+{
+    &s[column.min(s.len())..]
+}
+
+// How many bytes stand before the first stop, in the library's words: so the chain is proved.
+fn unstopped(s: &[u8], stop: u8) -> usize
+    ensures { result ≡ length (take_while (λ byte. not (byte == stop)) s.now) }
+{
+    s.iter().take_while(|byte| **byte != stop).count()
+}
+
+// The word that starts at from and ends at the first stop, or at the line's end.
+pub fn word(s: &[u8], from: usize, stop: u8) -> &[u8]
+    ensures { result.now ≡ word_at stop s.now from }
+{
+    let left = rest(s, from);
+    &left[..unstopped(left, stop)]
+}
+
+// Where that word ends.
 pub fn end_of(s: &[u8], from: usize, stop: u8) -> usize
     ensures { result ≡ from + length (word_at stop s.now from) }
 {
-    let mut e = from;
-    while e < s.len() {
-        if s[e] == stop {
-            break;
-        }
-        e += 1;
-    }
-    e
+    from + word(s, from, stop).len()
 }
 
-// Byte j of the word from from to to, and 0 past its end.
-pub fn part_at(s: &[u8], from: usize, to: usize, j: usize) -> u8
-    ensures { result ≡ num (slice from to s.now) j }
+// The part of a text from from to to, as far as it lies in the text.
+pub fn part(s: &[u8], from: usize, to: usize) -> &[u8]
+    ensures { result.now ≡ slice from to s.now }
 {
-    if to <= from {
-        return 0;
-    }
-    if to - from <= j {
-        return 0;
-    }
-    if s.len() <= from + j {
-        return 0;
-    }
-    s[from + j]
+    rest(&s[..to.min(s.len())], from)
 }
 
 // Byte j of entry i of a list of names, and 0 past the list's end.
@@ -57,37 +61,24 @@ fn entry_at(names: &[u8], i: usize, j: usize) -> u8
     requires { j < 4 }
     ensures { result ≡ num names.now (i * 4 + j) }
 {
-    if names.len() / 4 < i {
-        return 0;
-    }
-    byte_at(names, i * 4 + j)
+    get_or(names, i.saturating_mul(4).saturating_add(j), 0)
 }
 
-// The first of count names that is the word from from to to.
-pub fn find(names: &[u8], count: usize, s: &[u8], from: usize, to: usize) -> Found
-    ensures { result ≡ lookup names.now count (slice from to s.now) }
+// The first of count names that is this word.
+pub fn find(names: &[u8], count: usize, word: &[u8]) -> Option<usize>
+    ensures found { result ≡ lookup names.now count word.now }
+    ensures below { IfSome result (λ i. i < count) }
 {
-    let mut i: usize = 0;
-    let k = 'names: loop {
-        if count <= i {
-            break 'names count;
-        }
-        let mut j: usize = 0;
-        loop {
-            if j == 4 {
-                break 'names i;
+    'names: {
+        'entries: for i in 0..count {
+            for j in 0..4 {
+                if entry_at(names, i, j) != get_or(word, j, 0) {
+                    continue 'entries;
+                }
             }
-            if entry_at(names, i, j) != part_at(s, from, to, j) {
-                break;
-            }
-            j += 1;
+            break 'names Some(i);
         }
-        i += 1;
-    };
-    if k < count {
-        Found::At(k)
-    } else {
-        Found::Nothing
+        None
     }
 }
 
@@ -95,34 +86,13 @@ pub fn find(names: &[u8], count: usize, s: &[u8], from: usize, to: usize) -> Fou
 pub fn follows(s: &[u8], column: usize, w: &[u8]) -> bool
     ensures { result ≡ starts w.now (drop column s.now) }
 {
-    let mut p = column;
-    let mut i: usize = 0;
-    while i < w.len() {
-        if s.len() <= p {
-            return false;
-        }
-        if s[p] != w[i] {
-            return false;
-        }
-        p += 1;
-        i += 1;
-    }
-    true
+    rest(s, column).starts_with(w)
 }
 
 // No byte outside 32 to 126.
+#[tactic(auto, unfolding(crate::specs::Bytes::all_of))]
 pub fn plain(s: &[u8]) -> bool
     ensures { result ≡ plain_bytes s.now }
 {
-    let mut i: usize = 0;
-    while i < s.len() {
-        if s[i] < 32 {
-            return false;
-        }
-        if 126 < s[i] {
-            return false;
-        }
-        i += 1;
-    }
-    true
+    s.iter().all(|byte| within(*byte, 32, 126))
 }

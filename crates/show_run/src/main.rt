@@ -6,17 +6,17 @@ ghost use Rattle.std.specs.Prelude.{◌≤◌, length};
 
 use input::read_full;
 use job::Job;
-use outputs::show::{Shown, show};
+use outputs::show::{MOST, show};
 use std::fs;
 use std::io::Print;
 use std::rt::Files;
 
-// The file's bytes at the start of the buffer, and how many; none where it cannot be opened.
+// The file's bytes at the start of the buffer, and how many; none where it cannot be opened. A read that fails ends the file.
 fn read_file<R: Files>(rt: &R, name: &str, space: &mut [u8]) -> usize
     ensures { result ≤ length space.new }
 {
     match fs::open(rt, name) {
-        Ok(mut file) => read_full(&mut file, space),
+        Ok(mut file) => read_full(&mut file, space).count,
         Err(_) => 0,
     }
 }
@@ -25,10 +25,7 @@ fn main(rt: HostRuntime) {
     // One byte more than each may have, so that a longer one is seen.
     let mut job = [0u8; Job::TEXT + 1];
     let n = read_file(&rt, "job.txt", &mut job);
-    let mut claim = [0u8; Shown::MOST + 1];
+    let mut claim = [0u8; MOST + 1];
     let k = read_file(&rt, "claim.txt", &mut claim);
-    let shown = show(&job[..n], &claim[..k]);
-    let text = shown.text;
-    let length = shown.length;
-    let _ = rt.write_all(&text[..length]);
+    let _ = rt.write_all(show(&job[..n], &claim[..k]).bytes());
 }

@@ -1,28 +1,43 @@
 -- Laws of comments: one line's, and those of the lines that are left from a place of the text on.
-use mathlib.Core.Path.{◌≡◌, sym, ap, ◌∙◌}
-use mathlib.Core.Bool.{true, false}
+use mathlib.Core.Path.{◌≡◌, refl, sym, ap, ◌∙◌}
+use mathlib.Core.Bool.{true, false, ◌&&◌, cond}
 use mathlib.Core.Logic.{◌⊎◌, inl, inr}
 use mathlib.Core.List.{List, [], ◌∷◌, ◌++◌}
 use Prim.Native.Nat.{ℕ, ◌+◌, ◌-◌, ◌≤◌, ◌<◌}
 use native.Mathlib.Omega.{arith}
-use borrow.Author.Tests.{leb-true, leb-false, le-leb, lt-leb}
-use lib.Dec.{leb}
+use native.Mathlib.Decide.{ℕ_discrete}
+use borrow.Author.Tests.{eq-eqb, ne_eqb, leb-true, leb-false, le-leb, lt-leb}
+use lib.Dec.{eqb, leb}
 use lib.ListN.{length, take, drop, length-append, length-drop}
 use lib.Seq.{drop-nil}
 use Rattle.lists.specs.Pieces.{cut, starts}
 use Rattle.lists.specs.Writing.{write}
 use Rattle.lists.proofs.Logic.{split}
 use Rattle.lists.proofs.PieceLaws.{length_up_to}
-use Rattle.lists.proofs.WritingLaws.{length_write, write_none, write_more}
+use Rattle.lists.proofs.WritingLaws.{write_none, write_more}
 use Rattle.scan.specs.Bytes.{word_at}
 use Rattle.scan.specs.Lines.{rows, lines}
 use Rattle.scan.proofs.LineLaws.{lines_at, lines_out}
-use Rattle.put.specs.Put.{Put}
+use Rattle.put.specs.declared.Page.{Page}
+use Rattle.put.specs.Put.{Puts}
+use Rattle.std.proofs.Common.{◌==◌}
+use Rattle.std.specs.List.{starts_with}
+use Rattle.put.proofs.PutLaws.{put_own, put_length}
 use Rattle.program.specs.ProgramLine.{is_lemmas, is_comment}
 use Rattle.text.specs.Bytes.{lf}
 use Rattle.text.specs.Comments.{remark, remarks, comments}
 
 -- ---- one line
+
+-- as the library has it
+pub comment_is : (line : List ℕ) → starts_with ◌==◌ line (126 ∷ []) ≡ starts (126 ∷ []) line
+unfolding starts
+comment_is [] = refl
+comment_is (b ∷ bs) = go (ℕ_discrete b 126)
+  where
+    go : Dec (b ≡ 126) → (eqb 126 b && true) ≡ (eqb b 126 && true)
+    go (yes e) = rw (eq-eqb b 126 e, eq-eqb 126 b (sym e))
+    go (no e) = rw (ne_eqb b 126 e, ne_eqb 126 b (λ x. e (sym x)))
 
 module _ (line : List ℕ) where
   pub remark_is : starts (126 ∷ []) line ≡ true → remark line ≡ (99 ∷ 32 ∷ []) ++ line ++ (lf ∷ [])
@@ -35,6 +50,14 @@ module _ (line : List ℕ) where
 
   pub remark_long : starts (126 ∷ []) line ≡ true → length (remark line) ≡ length line + 3
   remark_long h = ap length (remark_is h) ∙ simp length-append (omega arith)
+
+  pub remark_counted : length (remark line) ≡ cond (starts_with ◌==◌ line (126 ∷ [])) (length line + 3) 0
+  remark_counted = rw (comment_is line) (go (split (starts (126 ∷ []) line)))
+    where
+      go : (starts (126 ∷ []) line ≡ true) ⊎ (starts (126 ∷ []) line ≡ false)
+          → length (remark line) ≡ cond (starts (126 ∷ []) line) (length line + 3) 0
+      go (inl h) = rw h (remark_long h)
+      go (inr h) = rw h (ap length (remark_not h))
 
 -- ---- the lines from place at on
 
@@ -56,10 +79,15 @@ left_first [] e k = ap (λ s. remarks (lines s)) (drop-nil (e + 1))
 left_first (b ∷ bs) e k = ap (λ ls. remarks (drop 1 ls)) (sym (lines_at (b ∷ bs) 0 e (omega arith) k))
 
 -- nothing is left
-pub done : (whole part out old : List ℕ) (end : ℕ) → part ≡ [] → end + length part ≡ length whole → write out end part ≡ write old 0 whole
-    → (end ≡ length whole) × (out ≡ write old 0 whole)
-done whole part out old end e n w =
-    (omega (arith, ap length e), write_none out end ∙ ap (write out end) (sym e) ∙ w)
+pub done : (whole part : List ℕ) {old page : Page} → part ≡ [] → page.out.ghost_name ≡ old.out.ghost_name
+    → page.end + length part ≡ old.end + length whole → write page.out.now page.end part ≡ write old.out.now old.end whole
+    → Puts (length whole) old page whole
+done whole part {page = page} e same n w = record {
+  same_reference = same;
+  short = omega arith;
+  end = omega (arith, ap length e);
+  out = write_none page.out.now page.end ∙ ap (write page.out.now page.end) (sym e) ∙ w;
+}
 
 module _ (text : List ℕ) where
   abbrev pub left : ℕ → List ℕ
@@ -99,15 +127,15 @@ module _ (text : List ℕ) where
         ∙ rw length-append (lt-leb (length (remark line) + length (left (e + 1))) room (omega arith)))
 
     -- what is left goes behind the line's own
-    pub write_next : {most end next : ℕ} {out new : List ℕ} → is_lemmas line ≡ false → Put most out end (remark line) next new
-        → end + length (left at) ≤ length out
-        → (next + length (left (e + 1)) ≡ end + length (left at))
-        × (write new next (left (e + 1)) ≡ write out end (left at))
-        × (length new ≡ length out)
-    write_next {most} {end} {next} {out} {new} l p r =
+    pub write_next : {most : ℕ} {page new : Page} → is_lemmas line ≡ false → Puts most page new (remark line)
+        → page.end + length (left at) ≤ length page.out.now
+        → (new.end + length (left (e + 1)) ≡ page.end + length (left at))
+        × (write new.out.now new.end (left (e + 1)) ≡ write page.out.now page.end (left at))
+        × (length new.out.now ≡ length page.out.now)
+    write_next {most} {page} {new} l p r =
         let n : length (left at) ≡ length (remark line) + length (left (e + 1)) = ap length (left_next l)
         ∙ length-append (remark line) (left (e + 1)) in (
-          omega (arith, p.behind),
-          rw (p.holds, p.behind, left_next l) (write_more out end (remark line) (left (e + 1)) (omega arith)),
-          ap length p.holds ∙ length_write out end (remark line) (omega arith),
+          omega (arith, p.end),
+          rw (p.out, p.end, left_next l) (write_more page.out.now page.end (remark line) (left (e + 1)) (omega arith)),
+          put_length (put_own p) (omega arith),
         )

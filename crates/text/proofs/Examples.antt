@@ -9,6 +9,8 @@ use Rattle.lists.specs.Places.{passing, first}
 use Rattle.lists.specs.Tests.{every}
 use Rattle.lists.specs.Pieces.{cut, starts}
 use Rattle.job.specs.OneBit.{one_bit}
+use Rattle.job.specs.Faults.{refusal_at}
+use Rattle.job.specs.declared.refusal.Fault.TheVariants.{NameUsed}
 use Rattle.scan.specs.Lines.{lines, rows}
 use Rattle.program.specs.ProgramLine.{is_lemmas, is_comment}
 use Rattle.put.specs.Names.{name_at}
@@ -57,7 +59,7 @@ unfolding with_text sentence numeral digits_below
 short_header = refl
 
 -- `refused 12 at 4`
-refusal : refused (record { number = 12; place = 4 })
+refusal : refused (refusal_at NameUsed 4)
     ≡ 114 ∷ 101 ∷ 102 ∷ 117 ∷ 115 ∷ 101 ∷ 100 ∷ 32 ∷ 49 ∷ 50 ∷ 32 ∷ 97 ∷ 116 ∷ 32 ∷ 52 ∷ 10 ∷ []
 unfolding sentence numeral digits_below
 refusal = refl

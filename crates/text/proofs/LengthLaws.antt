@@ -1,7 +1,6 @@
 -- How long the texts are: the two lines of two numbers, a number of a clause, a line of a run, and all lines of a run.
 use mathlib.Core.Path.{◌≡◌}
 use mathlib.Core.Bool.{Bool, true, false, cond}
-use mathlib.Core.Logic.{◌⊎◌, inl, inr}
 use mathlib.Core.List.{List, [], ◌∷◌}
 use Prim.Native.Nat.{ℕ, zero, suc, ◌+◌, ◌*◌, ◌-◌, ◌^◌, ◌≤◌, ◌<◌}
 use native.Mathlib.Omega.{arith}
@@ -13,19 +12,18 @@ use mir.Syntax.{w32}
 use mir.Val.{SFits}
 use Rattle.lists.specs.Rows.{each, num}
 use Rattle.lists.specs.Places.{first}
-use Rattle.lists.proofs.Logic.{split}
 use Rattle.lists.proofs.RowLaws.{length_tab}
 use Rattle.lists.proofs.PlaceLaws.{first_most}
-use Rattle.lists.specs.Numerals.{numeral}
 use Rattle.lists.proofs.NumeralLaws.{length_few, length_small, length_word}
-use Rattle.job.specs.declared.Refusal.{Refusal}
+use Rattle.job.specs.Faults.{number_of}
+use Rattle.job.specs.declared.refusal.Refusal.{Refusal}
 use Rattle.job.specs.Table.{n}
 use Rattle.put.specs.Names.{name_at}
 use Rattle.text.specs.Dimacs.{told, number_room}
 use Rattle.text.specs.Lines.{sentence, line_room, header, refused}
 use Rattle.text.specs.RunText.{word, bit_text, turn_text, steps_text, line_text, run_line_room}
 use Rattle.text.proofs.SignLaws.{size_small}
-use Rattle.text.proofs.ToldLaws.{length_less, length_not_less}
+use Rattle.text.proofs.ToldLaws.{length_told, sign_length}
 
 -- ---- lines of two numbers of 64 bits
 
@@ -40,18 +38,17 @@ sentence_length first x second y h k =
 pub header_length : (variables clauses : ℕ) → variables < 2 ^ 64 → clauses < 2 ^ 64 → length (header variables clauses) ≤ line_room
 header_length variables clauses h k = omega (arith, sentence_length (112 ∷ 32 ∷ 99 ∷ 110 ∷ 102 ∷ 32 ∷ []) variables (32 ∷ []) clauses h k)
 
-pub refused_length : (f : Refusal) → f.number < 2 ^ 64 → f.place < 2 ^ 64 → length (refused f) ≤ line_room
+pub refused_length : (f : Refusal) → number_of f.fault < 2 ^ 64 → f.place < 2 ^ 64 → length (refused f) ≤ line_room
 refused_length f h k =
-    omega (arith, sentence_length (114 ∷ 101 ∷ 102 ∷ 117 ∷ 115 ∷ 101 ∷ 100 ∷ 32 ∷ []) f.number (32 ∷ 97 ∷ 116 ∷ 32 ∷ []) f.place h k)
+    let word : List ℕ = 114 ∷ 101 ∷ 102 ∷ 117 ∷ 115 ∷ 101 ∷ 100 ∷ 32 ∷ [] in
+    omega (arith, sentence_length word (number_of f.fault) (32 ∷ 97 ∷ 116 ∷ 32 ∷ []) f.place h k)
 
 -- ---- a number of a clause, of 32 bits
 
 pub told_length : (z : ℤ) → SFits w32 z → length (told z) ≤ number_room
-told_length z h = go (split (lt_z z (pos 0))) (length_few 9 (nat_abs z) (omega (arith, size_small z h)))
-  where
-    go : (lt_z z (pos 0) ≡ true) ⊎ (lt_z z (pos 0) ≡ false) → length (numeral (nat_abs z)) ≤ 10 → length (told z) ≤ number_room
-    go (inl e) k = omega (arith, length_less z e)
-    go (inr e) k = omega (arith, length_not_less z e)
+told_length z h =
+    let digits = length_few 9 (nat_abs z) (omega (arith, size_small z h)) in
+    omega (arith, length_told z, sign_length (lt_z z (pos 0)))
 
 -- ---- a row of texts of at most k bytes each
 

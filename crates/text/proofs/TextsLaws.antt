@@ -3,79 +3,95 @@ use mathlib.Core.Path.{◌≡◌, refl, sym, ap, ◌∙◌}
 use mathlib.Core.Bool.{Bool, true, false}
 use mathlib.Core.Logic.{◌⊎◌, inl, inr}
 use mathlib.Core.List.{List, [], ◌∷◌}
-use Prim.Native.Nat.{ℕ, zero, suc, ◌+◌, ◌≤◌, ◌<◌}
+use Prim.Native.Nat.{ℕ, zero, suc, ◌+◌, ◌-◌, ◌≤◌, ◌<◌}
 use native.Mathlib.Decide.{ℕ_discrete}
 use native.Mathlib.Omega.{arith}
 use native.Mathlib.Numerals.{add-one}
 use borrow.Author.Tests.{leb-true, le-leb, lt-leb}
 use lib.Dec.{leb}
-use lib.ListN.{length, length-append}
+use lib.ListN.{length, take, length-append}
 use Rattle.lists.specs.Rows.{each, tab}
 use Rattle.lists.specs.Places.{passing}
 use Rattle.lists.specs.Writing.{write}
 use Rattle.lists.proofs.Logic.{split}
 use Rattle.lists.proofs.RowLaws.{length_tab}
 use Rattle.lists.proofs.PlaceLaws.{passing_stop, row_most, row_next, row_found}
-use Rattle.lists.proofs.WritingLaws.{length_write, write_none, write_more}
+use Rattle.lists.proofs.WritingLaws.{write_none}
+use Rattle.put.specs.declared.Page.{Page}
+use Rattle.put.specs.Put.{Adds, Puts}
+use Rattle.put.proofs.PutLaws.{put_none, put_most, put_own, put_then, put_fits, put_front, put_length}
 use Rattle.text.specs.Texts.{fitting, texted, with_texts}
 
-module _ (text : ℕ → List ℕ) (old : List ℕ) where
-  -- text i fits behind those before it
-  abbrev fits : ℕ → Bool
-  fits i = leb (length (each (suc i) text)) (length old)
+-- text i fits behind those before it
+abbrev fits : (ℕ → List ℕ) → List ℕ → ℕ → Bool
+fits text old i = leb (length (each (suc i) text)) (length old)
 
-  -- the first i texts are written, which take at bytes
-  pub record Begun (i at : ℕ) (out : List ℕ) : Type 0 where
-    pub bytes : at ≡ length (each i text)
-    pub room : at ≤ length old
-    pub all_fit : passing (tab i fits) ≡ i
-    pub holds : out ≡ write old 0 (each i text)
+longer : (text : ℕ → List ℕ) (i : ℕ) → length (each (suc i) text) ≡ length (each i text) + length (text i)
+unfolding each
+longer text i = length-append (each i text) (text i)
 
-  longer : (i : ℕ) → length (each (suc i) text) ≡ length (each i text) + length (text i)
-  unfolding each
-  longer i = length-append (each i text) (text i)
+-- the first i texts are put, and each fits
+pub record Begun (text : ℕ → List ℕ) (start page : Page) (i : ℕ) : Type 0 where
+  pub put : Puts (length start.out.now) start page (each i text)
+  pub all_fit : passing (tab i (fits text start.out.now)) ≡ i
 
-  pub begun_none : Begun 0 0 old
+module _ (text : ℕ → List ℕ) (start : Page) (front : start.end ≡ 0) where
+  pub begun_none : Begun text start start 0
   unfolding each passing
-  begun_none = record { bytes = refl; room = omega arith; all_fit = refl; holds = write_none old 0 }
+  begun_none = record { put = put_most (put_none start) (omega arith); all_fit = refl }
 
-  pub begun_length : {i at : ℕ} {out : List ℕ} → Begun i at out → length out ≡ length old
-  begun_length {i} b = ap length b.holds ∙ length_write old 0 (each i text) (omega (arith, b.bytes, b.room))
+  module _ (i : ℕ) {page : Page} (b : Begun text start page i) where
+    pub begun_end : page.end ≡ length (each i text)
+    begun_end = omega (arith, b.put.end)
 
-  pub begun_next : (i at : ℕ) (out out' : List ℕ) → Begun i at out → at + length (text i) ≤ length old
-      → out' ≡ write out at (text i) → Begun (i + 1) (at + length (text i)) out'
-  unfolding each
-  begun_next i at out out' b h e =
-      let s = longer i in
-      let p = each i text in
-      let z : 0 + length p ≡ at = omega (arith, b.bytes) in
-      record {
-        bytes = rw (add-one i, s) (omega (arith, b.bytes));
-        room = h;
-        all_fit = row_next fits i b.all_fit (le-leb (length (each (suc i) text)) (length old) (omega (arith, b.bytes)));
-        holds = e ∙ rw (b.holds, ← z, add-one i) (write_more old 0 p (text i) (omega arith));
-      }
+    pub begun_length : length page.out.now ≡ length start.out.now
+    begun_length = put_length b.put (omega arith)
 
-  module _ (n i at : ℕ) (out : List ℕ) (b : Begun i at out) where
-    ended : fitting n text (length old) ≡ i → (record { count = i; bytes = at } ≡ texted n text old) × (out ≡ with_texts n text old)
+    pub begun_room : (k : ℕ) → k ≤ length page.out.now - page.end → page.end + k ≤ length page.out.now
+    begun_room k h = omega (arith, begun_length, begun_end, b.put.short)
+
+    pub begun_next : {most : ℕ} {new : Page} → Puts most page new (text i) → length (text i) ≤ length page.out.now - page.end
+        → Begun text start new (i + 1)
+    unfolding each
+    begun_next p h =
+        let n = begun_end in
+        let room = begun_length in
+        let put = put_then (put_own b.put) (put_own p) (omega (arith, b.put.short)) in
+        record {
+          put = rw (add-one i) (put_most put (omega arith));
+          all_fit = row_next (fits text start.out.now) i b.all_fit
+              (le-leb (length (each (suc i) text)) (length start.out.now) (omega (arith, longer text i)));
+        }
+
+    -- the same where it was made on a page of its own and is put from there
+    pub begun_part : {most : ℕ} {first line new : Page} → Puts most first line (text i) → first.end ≡ 0
+        → line.end ≤ length page.out.now - page.end → {x : List ℕ} → Adds page new (take line.end x) → x ≡ line.out.now
+        → Begun text start new (i + 1)
+    begun_part {line} made front h a e =
+        let n : line.end ≡ length (text i) = omega (arith, made.end) in
+        let put = rw (e, put_front made front) at a in
+        begun_next (put_fits put (begun_room (length (text i)) (omega arith))) (omega arith)
+
+    ended : (n : ℕ) → fitting n text (length start.out.now) ≡ i
+        → (record { count = i; bytes = page.end } ≡ texted n text start.out.now) × (page.out.now ≡ with_texts n text start.out.now)
     unfolding texted with_texts
-    ended e = (rw (e, b.bytes), rw e b.holds)
+    ended n e = (rw (e, begun_end), rw e (b.put.out ∙ ap (λ (k : ℕ). write start.out.now k (each i text)) front))
 
-    pub begun_full : i < n → length old < at + length (text i)
-        → (record { count = i; bytes = at } ≡ texted n text old) × (out ≡ with_texts n text old)
+    pub begun_full : (n : ℕ) → i < n → length page.out.now - page.end < length (text i)
+        → (record { count = i; bytes = page.end } ≡ texted n text start.out.now) × (page.out.now ≡ with_texts n text start.out.now)
     unfolding fitting
-    begun_full l h =
-        let s = longer i in
-        ended (row_found fits i n b.all_fit (lt-leb (length (each (suc i) text)) (length old) (omega (arith, b.bytes))) l)
+    begun_full n l h = ended n (row_found (fits text start.out.now) i n b.all_fit
+        (lt-leb (length (each (suc i) text)) (length start.out.now) (omega (arith, longer text i, begun_end, begun_length))) l)
 
-    pub begun_all : i ≡ n → (record { count = i; bytes = at } ≡ texted n text old) × (out ≡ with_texts n text old)
+    pub begun_all : (n : ℕ) → i ≡ n
+        → (record { count = i; bytes = page.end } ≡ texted n text start.out.now) × (page.out.now ≡ with_texts n text start.out.now)
     unfolding fitting
-    begun_all e = ended (rw (← e) b.all_fit)
+    begun_all n e = ended n (rw (← e) b.all_fit)
 
 -- no texts
-pub texts_none : (n : ℕ) (text : ℕ → List ℕ) (old : List ℕ) → n ≡ 0
-    → (record { count = 0; bytes = 0 } ≡ texted n text old) × (old ≡ with_texts n text old)
-texts_none n text old e = begun_all text old n 0 0 old (begun_none text old) (sym e)
+pub texts_none : (text : ℕ → List ℕ) (old : List ℕ) → (record { count = 0; bytes = 0 } ≡ texted 0 text old) × (old ≡ with_texts 0 text old)
+unfolding texted with_texts fitting passing each
+texts_none text old = (refl, write_none old 0)
 
 -- what is written lies in the buffer
 module _ (text : ℕ → List ℕ) (old : List ℕ) where

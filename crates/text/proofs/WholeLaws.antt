@@ -10,25 +10,25 @@ use lib.Dec.{leb}
 use lib.ListN.{length}
 use Rattle.lists.specs.Writing.{write}
 use Rattle.lists.proofs.Logic.{split}
-use Rattle.text.specs.declared.Printed.TheVariants.{Bytes, Short}
+use Rattle.std.proofs.Common.{Some, None}
 use Rattle.text.specs.Whole.{printed, with_text}
 
 module _ (text old : List ℕ) where
-  pub too_long : length old < length text → (Short ≡ printed text old) × (old ≡ with_text text old)
+  pub too_long : length old < length text → (None ≡ printed text old) × (old ≡ with_text text old)
   unfolding printed with_text
   too_long h = (rw (lt-leb _ _ h), rw (lt-leb _ _ h))
 
   pub given_whole : (n : ℕ) (new : List ℕ) → n ≡ length text → length text ≤ length old → new ≡ write old 0 text
-      → (Bytes n ≡ printed text old) × (new ≡ with_text text old)
+      → (Some n ≡ printed text old) × (new ≡ with_text text old)
   unfolding printed with_text
   given_whole n new e h w = (rw (le-leb _ _ h, e), rw (le-leb _ _ h) w)
 
   -- what is written lies in the buffer
-  pub printed_within : (n : ℕ) → Bytes n ≡ printed text old → n ≤ length old
+  pub printed_within : (n : ℕ) → Some n ≡ printed text old → n ≤ length old
   unfolding printed
   printed_within n e = go (split (leb (length text) (length old)))
     where
       go : (leb (length text) (length old) ≡ true) ⊎ (leb (length text) (length old) ≡ false) → n ≤ length old
-      go (inl t) = let k : Bytes n ≡ Bytes (length text) = rw t at e in let i : n ≡ length text = cc in
+      go (inl t) = let k : Some n ≡ Some (length text) = rw t at e in let i : n ≡ length text = cc in
           omega (arith, leb-true (length text) (length old) t)
-      go (inr t) = let k : Bytes n ≡ Short = rw t at e in let z : ◌≡◌ {A = ℕ} 0 1 = cc in absurd (omega arith)
+      go (inr t) = let k : Some n ≡ None = rw t at e in let z : ◌≡◌ {A = ℕ} 0 1 = cc in absurd (omega arith)

@@ -1,6 +1,6 @@
 -- The lines of a run (document 01, 'A job in full'): 'time, steps, bits, turn'.
 use Rattle.std.specs.Prelude.{cond, List, [], ◌∷◌, ◌++◌, ℕ, suc, ◌+◌, ◌*◌, ◌-◌, eqb, leb}
-use Rattle.lists.specs.Rows.{each, num}
+use Rattle.lists.specs.Rows.{each}
 use Rattle.lists.specs.Tests.{every}
 use Rattle.job.specs.declared.Job.{Job}
 use Rattle.job.specs.Limits.{max_bound, max_steps}
@@ -38,10 +38,6 @@ line_text labels names n group t =
 -- its room in a run with n variables: a time of two digits, two steps, the bits, the turn, LF; a name has four bytes at most
 abbrev pub run_line_room : ℕ → ℕ
 run_line_room n = 2 + 5 + 5 + n * 7 + 2 + 1
-
--- byte i of the group of time t, as `group_byte` has it, of n variables
-abbrev pub group_of : ℕ → List ℕ → ℕ → ℕ → ℕ
-group_of n bs t i = num bs (t * (n + 3) + i)
 
 -- line t of a run
 abbrev pub run_line : Job → List ℕ → ℕ → List ℕ

@@ -1,43 +1,43 @@
 // The comments of a job text's lines.
-ghost use Rattle.std.specs.Prelude.{◌≡◌, ◌+◌, ◌≤◌, leb, length, drop};
-ghost use Rattle.lists.specs.Writing.{write};
-ghost use Rattle.put.specs.Put.{Put};
+ghost use Rattle.std.specs.Prelude.{◌≡◌, ◌+◌, ◌≤◌, leb, length};
+ghost use Rattle.put.specs.Put.{Puts};
 ghost use Rattle.text.specs.Comments.{remark, remarks};
 ghost use Rattle.scan.specs.Lines.{lines};
 
-use put::{put_byte, put_part};
+use put::Page;
 
+#[tactic(auto, using(crate::proofs::CommentLaws::remark_counted))]
 fn remark_length(line: &[u8]) -> usize
     ensures { result ≡ length (remark line.now) }
 {
-    if scan::follows(line, 0, b"~") {
+    if line.starts_with(b"~") {
         line.len() + 3
     } else {
         0
     }
 }
 
-fn put_remark(out: &mut [u8], at: usize, line: &[u8]) -> usize
-    requires { at + length (remark line.now) ≤ length out.old }
-    ensures { Put (length (remark line.now)) out.old at (remark line.now) result out.new }
+fn put_remark(page: &mut Page, line: &[u8])
+    requires { page.old.end + length (remark line.now) ≤ length page.old.out.now }
+    ensures { Puts (length (remark line.now)) page.old page.new (remark line.now) }
 {
-    if scan::follows(line, 0, b"~") {
-        let a = put_part(&mut *out, at, b"c ");
-        let b = put_part(&mut *out, a, line);
-        return put_byte(&mut *out, b, 10);
+    if line.starts_with(b"~") {
+        page.part(b"c ");
+        page.part(line);
+        page.byte(b'\n');
     }
-    at
 }
 
-// The comments of the lines from place `from` on take no more than this room.
-pub(crate) fn remarks_fit(text: &[u8], from: usize, room: usize) -> bool
-    ensures { result ≡ leb (length (remarks (lines (drop from text.now)))) room }
+// The comments of these lines take no more than this room.
+pub(crate) fn remarks_fit(text: &[u8], room: usize) -> bool
+    ensures { result ≡ leb (length (remarks (lines text.now))) room }
 {
-    let mut at = from;
+    let mut at = 0;
     let mut left = room;
+    // By hand: each turn goes on behind the line's end, which is found.
     while at < text.len() {
-        let e = scan::end_of(text, at, 10);
-        let line = &text[at..e];
+        let end = scan::end_of(text, at, b'\n');
+        let line = &text[at..end];
         if program::is_lemmas(line) {
             return true;
         }
@@ -46,26 +46,24 @@ pub(crate) fn remarks_fit(text: &[u8], from: usize, room: usize) -> bool
             return false;
         }
         left -= n;
-        at = e + 1;
+        at = end + 1;
     }
     true
 }
 
-pub(crate) fn put_remarks(out: &mut [u8], text: &[u8], from: usize) -> usize
-    requires { length (remarks (lines (drop from text.now))) ≤ length out.old }
-    ensures { (result ≡ length (remarks (lines (drop from text.now))))
-        × (out.new ≡ write out.old 0 (remarks (lines (drop from text.now)))) }
+pub(crate) fn put_remarks(page: &mut Page, text: &[u8])
+    requires { page.old.end + length (remarks (lines text.now)) ≤ length page.old.out.now }
+    ensures { Puts (length (remarks (lines text.now))) page.old page.new (remarks (lines text.now)) }
 {
-    let mut at = from;
-    let mut end: usize = 0;
+    let mut at = 0;
+    // By hand, in the same way.
     while at < text.len() {
-        let e = scan::end_of(text, at, 10);
-        let line = &text[at..e];
+        let end = scan::end_of(text, at, b'\n');
+        let line = &text[at..end];
         if program::is_lemmas(line) {
-            return end;
+            return;
         }
-        end = put_remark(&mut *out, end, line);
-        at = e + 1;
+        put_remark(page, line);
+        at = end + 1;
     }
-    end
 }

@@ -3,47 +3,43 @@
 
 mod numeral; // numeral.rt: numbers in decimal
 mod told; // told.rt: one number of a clause
-mod sentence; // sentence.rt: a number in a line, and a line of two numbers
+mod sentence; // sentence.rt: a line of two numbers
 mod run; // run.rt: the lines of a run
 mod comments; // comments.rt: the comments of a job text
 
-ghost use Rattle.std.specs.Prelude.{◌≡◌, ◌*◌, ◌≤◌, length};
+ghost use Rattle.std.specs.Prelude.{◌≡◌, ◌*◌, ◌≤◌, length, drop};
 ghost use Rattle.text.specs.Texts.{texted, with_texts};
 ghost use Rattle.text.specs.Dimacs.{number_room, number_text};
 ghost use Rattle.text.specs.Whole.{printed, with_text};
-ghost use Rattle.text.specs.Lines.{header, refused};
+ghost use Rattle.text.specs.Lines.{sentence, header, refused};
 ghost use Rattle.text.specs.RunText.{run_line, run_lines};
 ghost use Rattle.text.specs.Comments.{comments};
 
 use comments::{put_remarks, remarks_fit};
 use job::{Job, Refusal};
-use put::put_part;
+use put::Page;
 use run::put_lines;
 use sentence::put_sentence;
 use told::{put_told, told_length};
 
+// A number of 32 bits takes at most: a sign, ten digits, the byte behind them.
+pub const NUMBER: usize = 12;
+
+// A header or a refusal takes at most: words of eight bytes, twenty digits each, LF.
+pub const LINE: usize = 57;
+
 // How many whole texts were written, and their bytes.
-#[derive(Clone, Copy)]
+#[derive(Clone, Copy, PartialEq, Eq, Debug)]
 pub struct Texted {
     pub count: usize,
     pub bytes: usize,
 }
 
-// How many bytes were written, or that the buffer is short and as it was.
-#[derive(Clone, Copy)]
-pub enum Printed {
-    Bytes(usize),
-    Short,
-}
-
-impl Texted {
-    // A number of 32 bits: a sign, ten digits, the byte behind them.
-    pub const NUMBER: usize = 12;
-}
-
-impl Printed {
-    // A header or a refusal: words of at most eight bytes, twenty digits each, LF.
-    pub const LINE: usize = 57;
+// The bytes from place `from` on, none past the end.
+fn rest(text: &[u8], from: usize) -> &[u8]
+    ensures { result.now ≡ drop from text.now }
+{
+    text.get(from..).unwrap_or(&[])
 }
 
 // The text of clauses: whole numbers while the next one fits. A buffer of as many bytes a number as the longest one takes holds all.
@@ -52,54 +48,65 @@ pub fn numbers_text(numbers: &[i32], out: &mut [u8]) -> Texted
         × (out.new ≡ with_texts (length numbers.now) (number_text numbers.now) out.old) }
     ensures count_value { length numbers.now * number_room ≤ length out.old → result.count ≡ length numbers.now }
 {
-    let mut count: usize = 0;
-    let mut bytes: usize = 0;
-    while count < numbers.len() {
-        let x = numbers[count];
-        let n = told_length(x);
-        if out.len() - bytes < n {
-            return Texted { count, bytes };
+    let mut page = Page::new(out);
+    for (count, &x) in numbers.iter().enumerate() {
+        if page.out.len() - page.end < told_length(x) {
+            return Texted {
+                count,
+                bytes: page.end,
+            };
         }
-        put_told(&mut *out, bytes, bytes + n, x);
-        bytes += n;
-        count += 1;
+        put_told(&mut page, x);
     }
-    Texted { count, bytes }
+    Texted {
+        count: numbers.len(),
+        bytes: page.end,
+    }
 }
 
-// A text goes into the buffer whole, or nothing of it does.
-fn give(text: &[u8], out: &mut [u8]) -> Printed
+// A text goes into the buffer whole, or nothing of it does: how many bytes were written, or that the buffer is short and as it was.
+#[tactic(auto, unfolding(crate::specs::Whole::printed, crate::specs::Whole::with_text))]
+fn give(text: &[u8], out: &mut [u8]) -> Option<usize>
     ensures { (result ≡ printed text.now out.old) × (out.new ≡ with_text text.now out.old) }
 {
     if out.len() < text.len() {
-        return Printed::Short;
+        return None;
     }
-    put_part(out, 0, text);
-    Printed::Bytes(text.len())
+    out[..text.len()].copy_from_slice(text);
+    Some(text.len())
+}
+
+// A line of two numbers, each behind its word, given in the same way.
+fn give_sentence(first: &[u8], x: usize, second: &[u8], y: usize, out: &mut [u8]) -> Option<usize>
+    requires { (length first.now ≤ 8) × (length second.now ≤ 8) }
+    ensures { (result ≡ printed (sentence first.now x second.now y) out.old)
+        × (out.new ≡ with_text (sentence first.now x second.now y) out.old) }
+{
+    let mut line = [0u8; LINE];
+    let mut page = Page::new(&mut line);
+    put_sentence(&mut page, first, x, second, y);
+    let end = page.end;
+    give(&line[..end], out)
 }
 
 // `p cnf V C`.
-pub fn header_text(variables: usize, clauses: usize, out: &mut [u8]) -> Printed
+pub fn header_text(variables: usize, clauses: usize, out: &mut [u8]) -> Option<usize>
     ensures { (result ≡ printed (header variables clauses) out.old) × (out.new ≡ with_text (header variables clauses) out.old) }
 {
-    let mut line = [0u8; Printed::LINE];
-    let end = put_sentence(&mut line, b"p cnf ", variables, b" ", clauses);
-    give(&line[..end], out)
+    give_sentence(b"p cnf ", variables, b" ", clauses, out)
 }
 
 // `refused N at P`.
-pub fn refusal_text(refusal: Refusal, out: &mut [u8]) -> Printed
+pub fn refusal_text(refusal: Refusal, out: &mut [u8]) -> Option<usize>
     ensures { (result ≡ printed (refused refusal) out.old) × (out.new ≡ with_text (refused refusal) out.old) }
 {
-    let mut line = [0u8; Printed::LINE];
-    let end = put_sentence(
-        &mut line,
+    give_sentence(
         b"refused ",
-        refusal.number as usize,
+        usize::from(refusal.fault.number()),
         b" at ",
         refusal.place,
-    );
-    give(&line[..end], out)
+        out,
+    )
 }
 
 // The lines of a run: whole ones while the next one fits.
@@ -107,24 +114,21 @@ pub fn run_text(j: Job, run: &[u8], out: &mut [u8]) -> Texted
     ensures { (result ≡ texted (run_lines j) (run_line j run.now) out.old)
         × (out.new ≡ with_texts (run_lines j) (run_line j run.now) out.old) }
 {
-    let r = j.program.bound;
-    let n = j.program.variables;
-    if Job::BOUND < r {
+    if Job::BOUND < j.program.bound || Job::STEPS < j.program.variables {
         return Texted { count: 0, bytes: 0 };
     }
-    if Job::STEPS < n {
-        return Texted { count: 0, bytes: 0 };
-    }
-    put_lines(out, &j.labels, &j.names, run, n, r)
+    put_lines(&j, run, out)
 }
 
 // The comments of a job text's program.
-pub fn comment_text(text: &[u8], out: &mut [u8]) -> Printed
+pub fn comment_text(text: &[u8], out: &mut [u8]) -> Option<usize>
     ensures { (result ≡ printed (comments text.now) out.old) × (out.new ≡ with_text (comments text.now) out.old) }
 {
-    let from = scan::end_of(text, 0, 10) + 1;
-    if remarks_fit(text, from, out.len()) {
-        return Printed::Bytes(put_remarks(out, text, from));
+    let lines = rest(text, scan::end_of(text, 0, b'\n') + 1);
+    if !remarks_fit(lines, out.len()) {
+        return None;
     }
-    Printed::Short
+    let mut page = Page::new(out);
+    put_remarks(&mut page, lines);
+    Some(page.end)
 }

@@ -1,38 +1,40 @@
 // Numbers in decimal.
-ghost use Rattle.std.specs.Prelude.{◌≡◌, ◌-◌, ◌≤◌, length};
-ghost use Rattle.lists.specs.Writing.{write};
+ghost use Rattle.std.specs.Prelude.{◌≡◌, ◌+◌, ◌≤◌, length};
+ghost use Rattle.put.specs.Put.{Puts};
 ghost use Rattle.lists.specs.Numerals.{numeral};
 
+use put::Page;
+
 // How many digits x has.
+#[tactic(auto, using(crate::proofs::DigitLaws::length_tens, lists::proofs::NumeralLaws::length_small))]
 pub(crate) fn digits(x: usize) -> usize
-    ensures { result ≡ length (numeral x) }
+    ensures value { result ≡ length (numeral x) }
+    ensures short { result ≤ 20 }
 {
-    let mut n: usize = 1;
-    let mut rest = x;
-    while 10000 <= rest {
-        rest = rest / 10000;
-        n += 4;
+    match x.checked_ilog10() {
+        Some(tens) => tens as usize + 1,
+        None => 1,
     }
-    if rest < 10 {
-        return n;
-    }
-    if rest < 100 {
-        return n + 1;
-    }
-    if rest < 1000 { n + 2 } else { n + 3 }
 }
 
-// The digits of x, from the last, which stands before `end`.
-pub(crate) fn put_digits(out: &mut [u8], end: usize, x: usize)
-    requires { (length (numeral x) ≤ end) × (end ≤ length out.old) }
-    ensures { out.new ≡ write out.old (end - length (numeral x)) (numeral x) }
+// The digits of x, of which there are as many as there are places.
+#[tactic(auto, using(crate::proofs::DigitLaws::digits_begin, crate::proofs::DigitLaws::digit_next))]
+fn fill(out: &mut [u8], x: usize)
+    requires { length out.old ≡ length (numeral x) }
+    ensures { out.new ≡ numeral x }
 {
     let mut rest = x;
-    let mut at = end - 1;
-    while 10 <= rest {
-        out[at] = 48 + (rest % 10) as u8;
-        rest = rest / 10;
-        at -= 1;
+    for i in (0..out.len()).rev() {
+        out[i] = b'0' + (rest % 10) as u8;
+        rest /= 10;
     }
-    out[at] = 48 + rest as u8;
+}
+
+pub(crate) fn put_number(page: &mut Page, x: usize)
+    requires { page.old.end + length (numeral x) ≤ length page.old.out.now }
+    ensures { Puts 20 page.old page.new (numeral x) }
+{
+    let end = page.end + digits(x);
+    fill(&mut page.out[page.end..end], x);
+    page.end = end;
 }

@@ -1,136 +1,114 @@
 // The lines of a run.
-ghost use Rattle.std.specs.Prelude.{◌≡◌, suc, ◌+◌, ◌*◌, ◌-◌, ◌≤◌, ◌<◌, length};
-ghost use Rattle.put.specs.Put.{Put};
+ghost use Rattle.std.specs.Prelude.{◌≡◌, ◌+◌, ◌*◌, ◌-◌, ◌≤◌, ◌<◌, length};
+ghost use Rattle.lists.specs.Rows.{num};
+ghost use Rattle.put.specs.Put.{Puts};
 ghost use Rattle.text.specs.Texts.{texted, with_texts};
-ghost use Rattle.text.specs.RunText.{word, bit_text, bits_text, turn_text, steps_text, line_text, group_of};
+ghost use Rattle.text.specs.RunText.{word, bit_text, bits_text, turn_text, steps_text, line_text, run_line};
 ghost use Rattle.job.specs.Limits.{max_steps, max_bound};
 
-use super::Texted;
-use super::sentence::put_number;
+use super::numeral::put_number;
+use super::{Texted, rest};
 use job::Job;
-use put::{put_byte, put_name, put_part};
+use lists::get_or;
+use put::Page;
 
-fn put_word(out: &mut [u8], at: usize, names: &[u8], k: usize) -> usize
-    requires { at + 5 ≤ length out.old }
-    ensures { Put 5 out.old at (word names.now k) result out.new }
+// A line's bytes at most, in a table of as many variables as there may be.
+const LINE: usize = 33 + 26 * Job::STEPS;
+
+fn put_word(page: &mut Page, names: &[u8], k: usize)
+    requires { page.old.end + 5 ≤ length page.old.out.now }
+    ensures { Puts 5 page.old page.new (word names.now k) }
 {
-    let from = put_byte(&mut *out, at, 32);
-    put_name(out, from, names, k)
+    page.byte(b' ');
+    page.name(names, k);
 }
 
 // `a=0` behind a space.
-fn put_bit(out: &mut [u8], at: usize, names: &[u8], x: usize, b: u8) -> usize
-    requires { at + 26 ≤ length out.old }
-    ensures { Put 26 out.old at (bit_text names.now x b) result out.new }
+fn put_bit(page: &mut Page, names: &[u8], x: usize, b: u8)
+    requires { page.old.end + 26 ≤ length page.old.out.now }
+    ensures { Puts 26 page.old page.new (bit_text names.now x b) }
 {
-    let c = put_word(&mut *out, at, names, x);
-    let d = put_byte(&mut *out, c, 61);
-    put_number(out, d, b as usize)
+    put_word(page, names, x);
+    page.byte(b'=');
+    put_number(page, usize::from(b));
 }
 
-fn put_turn(out: &mut [u8], at: usize, b: u8) -> usize
-    requires { at + 2 ≤ length out.old }
-    ensures { Put 2 out.old at (turn_text b) result out.new }
+// The bits of a group.
+fn put_bits(page: &mut Page, names: &[u8], group: &[u8], n: usize)
+    requires { (page.old.end + n * 26 ≤ length page.old.out.now) × (n ≤ max_steps) }
+    ensures { Puts (n * 26) page.old page.new (bits_text names.now n (num group.now)) }
 {
-    if b == 1 {
-        return put_part(out, at, b" A");
+    for x in 0..n {
+        put_bit(page, names, x, get_or(group, 2 + x, 0));
     }
-    if b == 2 {
-        return put_part(out, at, b" B");
+}
+
+fn put_turn(page: &mut Page, b: u8)
+    requires { page.old.end + 2 ≤ length page.old.out.now }
+    ensures { Puts 2 page.old page.new (turn_text b) }
+{
+    match b {
+        1 => page.part(b" A"),
+        2 => page.part(b" B"),
+        _ => {}
     }
-    at
 }
 
-// Byte i of the group of time t.
-fn group_byte(run: &[u8], n: usize, t: usize, i: usize) -> u8
-    requires { (n ≤ max_steps) × (t ≤ max_bound) × (i < n + 3) }
-    ensures { result ≡ group_of n run.now t i }
+// The name of the step with this number, which counts from 1.
+fn put_step(page: &mut Page, labels: &[u8], number: u8)
+    requires { page.old.end + 5 ≤ length page.old.out.now }
+    ensures { Puts 5 page.old page.new (word labels.now (number - 1)) }
 {
-    scan::byte_at(run, t * (n + 3) + i)
+    put_word(page, labels, usize::from(number.saturating_sub(1)));
 }
 
-// The place of the name of a step with this number.
-fn place(b: u8) -> usize
-    ensures { result ≡ b - 1 }
+// Time and steps.
+fn put_steps(page: &mut Page, labels: &[u8], group: &[u8], t: usize)
+    requires { page.old.end + 30 ≤ length page.old.out.now }
+    ensures { Puts 30 page.old page.new (steps_text labels.now (num group.now) t) }
 {
-    if b == 0 { 0 } else { b as usize - 1 }
+    put_number(page, t);
+    put_step(page, labels, get_or(group, 0, 0));
+    put_step(page, labels, get_or(group, 1, 0));
 }
 
-// The bits of the group of time t.
-fn put_bits(out: &mut [u8], at: usize, names: &[u8], run: &[u8], n: usize, t: usize) -> usize
-    requires { (at + n * 26 ≤ length out.old) × (n ≤ max_steps) × (t ≤ max_bound) }
-    ensures { Put (n * 26) out.old at (bits_text names.now n (group_of n run.now t)) result out.new }
+// The line of time t, which has this group.
+fn put_line(page: &mut Page, j: &Job, group: &[u8], t: usize)
+    requires variables { j.now.program.variables ≤ max_steps }
+    requires room { page.old.end + (30 + j.now.program.variables * 26 + 2 + 1) ≤ length page.old.out.now }
+    ensures { Puts (30 + j.now.program.variables * 26 + 2 + 1) page.old page.new
+        (line_text j.now.labels j.now.names j.now.program.variables (num group.now) t) }
 {
-    let mut end = at;
-    let mut x: usize = 0;
-    while x < n {
-        end = put_bit(&mut *out, end, names, x, group_byte(run, n, t, 2 + x));
-        x += 1;
-    }
-    end
-}
-
-// The step whose number is byte i of the group of time t.
-fn put_step(
-    out: &mut [u8],
-    at: usize,
-    labels: &[u8],
-    run: &[u8],
-    n: usize,
-    t: usize,
-    i: usize,
-) -> usize
-    requires { (at + 5 ≤ length out.old) × (n ≤ max_steps) × (t ≤ max_bound) × (i < n + 3) }
-    ensures { Put 5 out.old at (word labels.now (group_of n run.now t i - 1)) result out.new }
-{
-    let k = place(group_byte(run, n, t, i));
-    put_word(out, at, labels, k)
-}
-
-fn put_steps(out: &mut [u8], labels: &[u8], run: &[u8], n: usize, t: usize) -> usize
-    requires { (30 ≤ length out.old) × (n ≤ max_steps) × (t ≤ max_bound) }
-    ensures { Put 30 out.old 0 (steps_text labels.now (group_of n run.now t) t) result out.new }
-{
-    let a = put_number(&mut *out, 0, t);
-    let b = put_step(&mut *out, a, labels, run, n, t, 0);
-    put_step(out, b, labels, run, n, t, 1)
-}
-
-// The line of time t.
-fn put_line(out: &mut [u8], labels: &[u8], names: &[u8], run: &[u8], n: usize, t: usize) -> usize
-    requires { (30 + n * 26 + 2 + 1 ≤ length out.old) × (n ≤ max_steps) × (t ≤ max_bound) }
-    ensures { Put (30 + n * 26 + 2 + 1) out.old 0 (line_text labels.now names.now n (group_of n run.now t) t) result out.new }
-{
-    let a = put_steps(&mut *out, labels, run, n, t);
-    let b = put_bits(&mut *out, a, names, run, n, t);
-    let c = put_turn(&mut *out, b, group_byte(run, n, t, 2 + n));
-    put_byte(out, c, 10)
+    let n = j.program.variables;
+    put_steps(page, &j.labels, group, t);
+    put_bits(page, &j.names, group, n);
+    put_turn(page, get_or(group, 2 + n, 0));
+    page.byte(b'\n');
 }
 
 // Each line is made in an array of its own and goes behind the others where it fits.
-pub(crate) fn put_lines<'a>(
-    out: &mut [u8],
-    labels: &'a [u8],
-    names: &'a [u8],
-    run: &[u8],
-    n: usize,
-    r: usize,
-) -> Texted
-    requires { (n ≤ max_steps) × (r ≤ max_bound) }
-    ensures { (result ≡ texted (suc r) (λ t. line_text labels.now names.now n (group_of n run.now t) t) out.old)
-        × (out.new ≡ with_texts (suc r) (λ t. line_text labels.now names.now n (group_of n run.now t) t) out.old) }
+// Not one function with `numbers_text`: a number's length is known before it is put, so that it needs no array.
+pub(crate) fn put_lines(j: &Job, run: &[u8], out: &mut [u8]) -> Texted
+    requires { (j.now.program.variables ≤ max_steps) × (j.now.program.bound ≤ max_bound) }
+    ensures { (result ≡ texted (j.now.program.bound + 1) (run_line j.now run.now) out.old)
+        × (out.new ≡ with_texts (j.now.program.bound + 1) (run_line j.now run.now) out.old) }
 {
-    let mut line = [0u8; 33 + 26 * Job::STEPS];
-    let mut count: usize = 0;
-    let mut bytes: usize = 0;
-    while count <= r {
-        let end = put_line(&mut line, labels, names, run, n, count);
-        if out.len() - bytes < end {
-            return Texted { count, bytes };
+    let mut page = Page::new(out);
+    let mut line = [0u8; LINE];
+    for t in 0..j.program.bound + 1 {
+        let mut one = Page::new(&mut line);
+        put_line(&mut one, j, rest(run, t * (j.program.variables + 3)), t);
+        let end = one.end;
+        if page.out.len() - page.end < end {
+            return Texted {
+                count: t,
+                bytes: page.end,
+            };
         }
-        put_part(&mut *out, bytes, &line[..end]);
-        bytes += end;
-        count += 1;
+        page.part(&line[..end]);
     }
-    Texted { count, bytes }
+    Texted {
+        count: j.program.bound + 1,
+        bytes: page.end,
+    }
 }

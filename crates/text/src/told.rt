@@ -1,37 +1,27 @@
 // One number of a clause.
-ghost use Rattle.std.specs.Prelude.{◌≡◌, ◌+◌, ◌≤◌, nat_abs, length};
-ghost use Rattle.lists.specs.Writing.{write};
+ghost use Rattle.std.specs.Prelude.{◌≡◌, ◌+◌, ◌≤◌, length};
+ghost use Rattle.put.specs.Put.{Puts};
 ghost use Rattle.text.specs.Dimacs.{told};
 
-use super::numeral::{digits, put_digits};
+use super::numeral::{digits, put_number};
+use put::Page;
 
-fn magnitude(x: i32) -> usize
-    ensures { result ≡ nat_abs x }
-{
-    let y = x as i64;
-    if y < 0 { (-y) as usize } else { y as usize }
-}
-
+// The minus sign, the digits, and the byte behind them.
+#[tactic(auto, using(crate::proofs::ToldLaws::length_told, crate::proofs::SignLaws::back))]
 pub(crate) fn told_length(x: i32) -> usize
     ensures { result ≡ length (told x) }
 {
-    let n = digits(magnitude(x)) + 1;
-    if x < 0 { n + 1 } else { n }
+    usize::from(x < 0) + digits(x.unsigned_abs() as usize) + 1
 }
 
-// The text of x, from `at` to `end`.
-pub(crate) fn put_told(out: &mut [u8], at: usize, end: usize, x: i32)
-    requires { (end ≡ at + length (told x)) × (end ≤ length out.old) }
-    ensures { out.new ≡ write out.old at (told x) }
+pub(crate) fn put_told(page: &mut Page, x: i32)
+    requires { page.old.end + length (told x) ≤ length page.old.out.now }
+    ensures { Puts (length (told x)) page.old page.new (told x) }
 {
-    let size = magnitude(x);
-    put_digits(&mut *out, end - 1, size);
-    if size == 0 {
-        out[end - 1] = 10;
-        return;
-    }
-    out[end - 1] = 32;
     if x < 0 {
-        out[at] = 45;
+        page.byte(b'-');
     }
+    let size = x.unsigned_abs() as usize;
+    put_number(page, size);
+    page.byte(if size == 0 { b'\n' } else { b' ' });
 }

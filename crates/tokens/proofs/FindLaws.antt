@@ -1,12 +1,25 @@
--- A byte that is not k is passed: the bytes up to k are that one and those from the next on.
-use mathlib.Core.Path.{◌≡◌, sym, ap, ◌∙◌}
-use mathlib.Core.List.{List}
-use Prim.Native.Nat.{ℕ, suc, ◌+◌, ◌≤◌, ◌<◌}
-use lib.ListN.{length, get_or}
-use lib.Seq.{slice}
+-- How many bytes stand in front of the first such byte, by where that is.
+use Rattle.std.proofs.Common.{◌≡◌, refl, ℕ, zero, suc, ◌<◌, Some, None, List, [], ◌∷◌, length, get_or, ap, arith}
+use borrow.Author.Tests.{eq-eqb, ne_eqb, eqb-true}
+use Rattle.memchr.specs.Find.{IsFirstByte, is_byte}
 use Rattle.lists.specs.Pieces.{up_to}
-use Rattle.lists.proofs.PieceLaws.{up_miss}
 
-pub passed : (k : ℕ) (s : List ℕ) (to i next : ℕ) → i < to → to ≤ length s → next ≡ i + 1 → (get_or s i 0 ≡ k → ⊥)
-    → length (up_to k (slice i to s)) ≡ suc (length (up_to k (slice next to s)))
-passed k s to i next h l e p = up_miss k s i to h l p ∙ ap (λ (j : ℕ). suc (length (up_to k (slice j to s)))) (sym e)
+up_to_hit : (k : ℕ) (xs : List ℕ) (n : ℕ) → n < length xs → get_or xs n 0 ≡ k → ((j : ℕ) → j < n → get_or xs j 0 ≡ k → ⊥)
+    → length (up_to k xs) ≡ n
+unfolding up_to
+up_to_hit k [] n l e f = absurd (omega arith)
+up_to_hit k (b ∷ bs) zero l e f = rw (eq-eqb b k e)
+up_to_hit k (b ∷ bs) (suc n) l e f =
+    rw (ne_eqb b k (f 0 (omega arith))) (ap suc (up_to_hit k bs n (omega arith) e (λ j h. f (suc j) (omega arith))))
+
+up_to_all : (k : ℕ) (xs : List ℕ) → ((j : ℕ) → j < length xs → get_or xs j 0 ≡ k → ⊥) → length (up_to k xs) ≡ length xs
+unfolding up_to
+up_to_all k [] f = refl
+up_to_all k (b ∷ bs) f = rw (ne_eqb b k (f 0 (omega arith))) (ap suc (up_to_all k bs (λ j h. f (suc j) (omega arith))))
+
+pub length_up_to_first : (k : ℕ) (xs : List ℕ) (n : ℕ) → IsFirstByte (is_byte k) xs (Some n) → length (up_to k xs) ≡ n
+length_up_to_first k xs n h =
+    up_to_hit k xs n h.0.high (eqb-true _ _ h.1) (λ j l e. h.0.before j (omega arith) l (eq-eqb _ _ e))
+
+pub length_up_to_none : (k : ℕ) (xs : List ℕ) → IsFirstByte (is_byte k) xs None → length (up_to k xs) ≡ length xs
+length_up_to_none k xs h = up_to_all k xs (λ j l e. h j (omega arith) l (eq-eqb _ _ e))

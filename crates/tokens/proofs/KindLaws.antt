@@ -1,28 +1,53 @@
--- Laws of a line's kind: one for each way out of the code that finds it.
-use mathlib.Core.Path.{◌≡◌, refl, sym, ap, ◌∙◌}
-use mathlib.Core.Bool.{true, false}
-use mathlib.Core.List.{List, [], ◌∷◌}
-use Prim.Native.Nat.{ℕ, ◌+◌, ◌<◌, ◌≤◌}
-use native.Mathlib.Omega.{arith}
-use borrow.Author.Tests.{ne_eqb, eqb-true}
-use lib.Dec.{eqb}
-use lib.ListN.{length, get_or, take, drop}
-use lib.Seq.{slice}
-use Rattle.lists.specs.Pieces.{starts, is}
+-- The library's tests of a line are those of the definition.
+use Rattle.std.proofs.Common.{◌≡◌, refl, ℕ, Bool, true, false, ◌&&◌, List, [], ◌∷◌, length, sym, ap, ◌∙◌}
+use native.Mathlib.Decide.{ℕ_discrete}
+use borrow.Author.Tests.{eq-eqb, ne_eqb, eqb-true}
+use lib.Dec.{eqb, eqb-suc-suc, eqb-suc-zero, eqb-zero-suc}
+use lib.Pointwise.{pointwise}
+use Rattle.std.specs.List.{starts_with}
 use Rattle.lists.proofs.Logic.{and_left, and_no}
-use Rattle.lists.proofs.PieceLaws.{part, part_none}
-use Rattle.tokens.specs.declared.Kind.TheVariants.{Comment, Satisfiable, Unsatisfiable, Values, Other}
-use Rattle.tokens.specs.Kinds.{satisfiable, unsatisfiable, kind_of}
+use Rattle.lists.specs.Pieces.{starts, is, up_to}
 
--- ---- by the first byte
+eqb_turned : (a b : ℕ) → eqb a b ≡ eqb b a
+eqb_turned a b = go (ℕ_discrete a b)
+  where
+    go : Dec (a ≡ b) → eqb a b ≡ eqb b a
+    go (yes e) = eq-eqb a b e ∙ sym (eq-eqb b a (sym e))
+    go (no e) = ne_eqb a b e ∙ sym (ne_eqb b a (λ p. e (sym p)))
+
+pub starts_is : (t p : List ℕ) → starts_with eqb p t ≡ starts t p
+unfolding starts
+starts_is [] p = refl
+starts_is (x ∷ t) [] = refl
+starts_is (x ∷ t) (b ∷ p) = rw (eqb_turned x b, starts_is t p)
+
+and_behind : (a b c : Bool) → (b && (a && c)) ≡ (a && (b && c))
+and_behind true b c = refl
+and_behind false b c = and_no b
+
+pub line_is : (t p : List ℕ) → pointwise eqb p t ≡ is t p
+unfolding is starts
+line_is [] [] = refl
+line_is (x ∷ t) [] = rw (eqb-zero-suc (length t))
+line_is [] (b ∷ p) = rw (eqb-suc-zero (length p))
+line_is (x ∷ t) (b ∷ p) =
+    rw (eqb-suc-suc (length p) (length t))
+    (ap (λ (r : Bool). eqb b x && r) (line_is t p) ∙ and_behind (eqb (length p) (length t)) (eqb b x) (starts t p))
+
+-- ---- what a test answered
+
+module _ (t p : List ℕ) (r b : Bool) (is_b : r ≡ b) where
+  pub begins : r ≡ starts_with eqb p t → starts t p ≡ b
+  begins e = sym (starts_is t p) ∙ sym e ∙ is_b
+
+  pub equals : r ≡ pointwise eqb p t → is t p ≡ b
+  equals e = sym (line_is t p) ∙ sym e ∙ is_b
+
+-- ---- a line of values is of no other kind
 
 head_start : (x b : ℕ) (t bs : List ℕ) → (b ≡ x → ⊥) → starts (x ∷ t) (b ∷ bs) ≡ false
 unfolding starts
 head_start x b t bs n = rw (ne_eqb b x n)
-
-head_line : (x b : ℕ) (t bs : List ℕ) → (b ≡ x → ⊥) → is (x ∷ t) (b ∷ bs) ≡ false
-unfolding is
-head_line x b t bs n = rw (head_start x b t bs n) (and_no (eqb (length (b ∷ bs)) (length (x ∷ t))))
 
 -- `v ` is the beginning of no line of another kind
 pub other_start : (x : ℕ) (t p : List ℕ) → (x ≡ 118 → ⊥) → starts (118 ∷ 32 ∷ []) p ≡ true → starts (x ∷ t) p ≡ false
@@ -34,64 +59,8 @@ pub other_line : (x : ℕ) (t p : List ℕ) → (x ≡ 118 → ⊥) → starts (
 unfolding is
 other_line x t p n h = rw (other_start x t p n h) (and_no (eqb (length p) (length (x ∷ t))))
 
-pub a_value_line : (p : List ℕ) → starts (118 ∷ 32 ∷ []) p ≡ true → Values ≡ kind_of p
-unfolding kind_of
-a_value_line p h = rw (
-  other_start 99 [] p (λ e. omega arith) h,
-  other_line 115 _ p (λ e. omega arith) h,
-  other_line 115 _ p (λ e. omega arith) h,
-  h,
-)
-
--- ---- the part from from to e, one law for each way out
-
-pub no_line : (s : List ℕ) (from e : ℕ) → e ≤ from → Other ≡ kind_of (slice from e s)
-unfolding kind_of starts is
-no_line s from e h = rw (part_none s from e h)
-
-module _ (s : List ℕ) (from e : ℕ) (l : from < e) (h : e ≤ length s) where
-  bs : List ℕ
-  bs = slice (from + 1) e s
-
-  line : slice from e s ≡ get_or s from 0 ∷ bs
-  unfolding bs
-  line = part s from e l h
-
-  pub a_comment : get_or s from 0 ≡ 99 → Comment ≡ kind_of (slice from e s)
-  unfolding kind_of starts
-  a_comment c = rw (line, c)
-
-  module _ (is_s : get_or s from 0 ≡ 115) where
-    no_comment : starts (99 ∷ []) (slice from e s) ≡ false
-    no_comment = rw line (head_start 99 (get_or s from 0) [] bs (λ q. omega arith))
-
-    pub a_satisfiable : is satisfiable (slice from e s) ≡ true → Satisfiable ≡ kind_of (slice from e s)
-    unfolding kind_of
-    a_satisfiable i = rw (no_comment, i)
-
-    pub an_unsatisfiable : is satisfiable (slice from e s) ≡ false → is unsatisfiable (slice from e s) ≡ true → Unsatisfiable
-        ≡ kind_of (slice from e s)
-    unfolding kind_of
-    an_unsatisfiable i j = rw (no_comment, i, j)
-
-    pub nothing_said : is satisfiable (slice from e s) ≡ false → is unsatisfiable (slice from e s) ≡ false → Other
-        ≡ kind_of (slice from e s)
-    unfolding kind_of
-    nothing_said i j =
-        let no_values : starts (118 ∷ 32 ∷ []) (slice from e s) ≡ false =
-        rw line (head_start 118 (get_or s from 0) _ bs (λ q. omega arith)) in
-        rw (no_comment, i, j, no_values)
-
-  pub another : (get_or s from 0 ≡ 99 → ⊥) → (get_or s from 0 ≡ 115 → ⊥) → starts (118 ∷ 32 ∷ []) (slice from e s) ≡ false → Other
-      ≡ kind_of (slice from e s)
-  unfolding kind_of
-  another c n v =
-      let b = get_or s from 0 in
-      let no_comment : starts (99 ∷ []) (slice from e s) ≡ false = rw line (head_start 99 b [] bs c) in
-      let no_sat : is satisfiable (slice from e s) ≡ false = rw line (head_line 115 b _ bs n) in
-      let no_unsat : is unsatisfiable (slice from e s) ≡ false = rw line (head_line 115 b _ bs n) in
-      rw (no_comment, no_sat, no_unsat, v)
-
--- a line that runs past the text ends with it
-pub same_line : (s : List ℕ) (from e to : ℕ) → take e s ≡ take to s → kind_of (slice from e s) ≡ kind_of (slice from to s)
-same_line s from e to h = ap (λ (l : List ℕ). kind_of (drop from l)) h
+-- a part that begins with the byte has nothing in front of it
+pub nothing_before : (k : ℕ) (p : List ℕ) → starts (k ∷ []) p ≡ true → length (up_to k p) ≡ 0
+unfolding starts up_to
+nothing_before k [] h = refl
+nothing_before k (b ∷ bs) h = rw (and_left (eqb b k) (starts [] bs) h)

@@ -1,44 +1,50 @@
 -- Laws of one number: its digits, what they write, and one law for each way out of the code that reads it.
 use mathlib.Core.Path.{◌≡◌, refl, sym, ap, ◌∙◌}
-use mathlib.Core.Bool.{Bool, true, false, not, ◌||◌, cond}
+use mathlib.Core.Bool.{Bool, true, false, not, ◌||◌, ◌&&◌, cond, true≢false}
 use mathlib.Core.List.{List, [], ◌∷◌}
-use Prim.Native.Nat.{ℕ, zero, suc, ◌+◌, ◌*◌, ◌-◌, ◌≤◌, ◌<◌, ◌^◌}
+use Prim.Native.Nat.{ℕ, zero, suc, ◌+◌, ◌*◌, ◌-◌, ◌≤◌, ◌<◌, ◌^◌, min}
 use native.Mathlib.Omega.{arith}
-use native.Mathlib.Decide.{ℕ_discrete}
+use native.Mathlib.Decide.{ℕ_discrete, dec_lt}
 use native.Mathlib.Nat.{pow-suc, pow-le-pow_right}
 use native.Mathlib.Numerals.{add-one}
-use borrow.Author.Tests.{eq-eqb, ne_eqb}
+use borrow.Author.Tests.{eq-eqb, ne_eqb, eqb-true}
 use lib.Dec.{eqb}
-use lib.ListN.{length, get_or, take, drop}
-use lib.Seq.{slice, length-slice, drop-drop}
+use lib.Pointwise.{pointwise}
+use lib.ListN.{length, get_or, take, drop, drop_of_length-le}
+use lib.Seq.{drop-cons}
 use Rattle.lists.specs.Rows.{num}
-use Rattle.lists.specs.Tests.{within}
-use Rattle.lists.proofs.Logic.{and_no}
+use Rattle.std.proofs.lemmas.List.{take_min, take_rest}
+use Rattle.std.specs.Char.{is_ascii_digit}
+use Rattle.lists.specs.Tests.{every, within}
+use Rattle.lists.proofs.Logic.{and_left, and_no}
 use Rattle.lists.proofs.TestLaws.{is_within, within_is, within_under, within_over}
 use Rattle.lists.specs.Pieces.{up_to}
-use Rattle.lists.proofs.PieceLaws.{part, part_none, length_up_to}
-use Rattle.tokens.specs.declared.Token.TheVariants.{Bad, Number}
-use Rattle.tokens.specs.declared.Word.{Word}
-use Rattle.tokens.specs.Numbers.{front, decimal, allowed, numbered, unsigned, token, word_at}
+use Rattle.tokens.specs.declared.Token.TheVariants.{Bad}
+use Rattle.tokens.specs.declared.FirstWord.{FirstWord}
+use Rattle.tokens.specs.Numbers.{front, decimal, allowed, numbered, unsigned, token, first_word}
 
 -- ---- the digits at the front
 
-module _ (s : List ℕ) (i to : ℕ) (h : i < to) (l : to ≤ length s) where
-  pub front_digit : 48 ≤ get_or s i 0 → get_or s i 0 ≤ 57 → front (slice i to s) ≡ get_or s i 0 ∷ front (slice (i + 1) to s)
-  unfolding front
-  front_digit a b = rw (part s i to h l, within_is 48 57 (get_or s i 0) a b)
+-- the library's test for a digit
+pub digit_test : (b : ℕ) → within 48 57 b ≡ is_ascii_digit b
+unfolding within every
+digit_test b = refl
 
-  pub front_below : get_or s i 0 < 48 → front (slice i to s) ≡ []
-  unfolding front
-  front_below a = rw (part s i to h l, within_under 48 57 (get_or s i 0) a)
+module _ (s : List ℕ) (i : ℕ) (h : i < length s) where
+  here : drop i s ≡ get_or s i 0 ∷ drop (i + 1) s
+  here = drop-cons s i 0 h ∙ ap (λ (j : ℕ). get_or s i 0 ∷ drop j s) (sym (add-one i))
 
-  pub front_above : 57 < get_or s i 0 → front (slice i to s) ≡ []
+  pub front_digit : within 48 57 (get_or s i 0) ≡ true → front (drop i s) ≡ get_or s i 0 ∷ front (drop (i + 1) s)
   unfolding front
-  front_above a = rw (part s i to h l, within_over 48 57 (get_or s i 0) a)
+  front_digit e = rw (here, e)
 
-pub front_none : (s : List ℕ) (i to : ℕ) → to ≤ i → front (slice i to s) ≡ []
+  pub front_other : within 48 57 (get_or s i 0) ≡ false → front (drop i s) ≡ []
+  unfolding front
+  front_other e = rw (here, e)
+
+pub front_none : (s : List ℕ) (i : ℕ) → length s ≤ i → front (drop i s) ≡ []
 unfolding front
-front_none s i to h = rw (part_none s i to h)
+front_none s i h = rw (drop_of_length-le s {i = i} h)
 
 -- of the first k bytes, fewer than k are digits: these are all
 pub front_short : (k : ℕ) (xs : List ℕ) → length (front (take k xs)) < k → front (take k xs) ≡ front xs
@@ -84,15 +90,15 @@ front_head (b ∷ bs) h = go (within 48 57 b) h
 -- ---- what digits write
 
 -- the scan at i: what is left of the digits, behind v
-module _ (s : List ℕ) (from to i v : ℕ) (left : from + length (front (slice from to s)) ≡ i + length (front (slice i to s)))
-    (writes : decimal 0 (front (slice from to s)) ≡ decimal v (front (slice i to s))) where
-  pub scan_ends : front (slice i to s) ≡ [] → (i ≡ from + length (front (slice from to s))) × (v ≡ decimal 0 (front (slice from to s)))
+module _ (s : List ℕ) (i v : ℕ) (left : length (front s) ≡ i + length (front (drop i s)))
+    (writes : decimal 0 (front s) ≡ decimal v (front (drop i s))) where
+  pub scan_ends : front (drop i s) ≡ [] → (i ≡ length (front s)) × (v ≡ decimal 0 (front s))
   unfolding decimal
   scan_ends e = (omega (arith, ap length e), sym (writes ∙ ap (decimal v) e))
 
-  pub scan_on : {d : ℕ} → front (slice i to s) ≡ d ∷ front (slice (i + 1) to s)
-      → (from + length (front (slice from to s)) ≡ i + 1 + length (front (slice (i + 1) to s)))
-      × (decimal 0 (front (slice from to s)) ≡ decimal (v * 10 + (d - 48)) (front (slice (i + 1) to s)))
+  pub scan_on : {d : ℕ} → front (drop i s) ≡ d ∷ front (drop (i + 1) s)
+      → (length (front s) ≡ i + 1 + length (front (drop (i + 1) s)))
+      × (decimal 0 (front s) ≡ decimal (v * 10 + (d - 48)) (front (drop (i + 1) s)))
   unfolding decimal
   scan_on e = (omega (arith, ap length e), writes ∙ ap (decimal v) e)
 
@@ -181,106 +187,105 @@ up_head k (b ∷ bs) h = go (eqb b k) h
     go true h = absurd (omega arith)
     go false h = refl
 
--- e is where the digits of the first eight bytes end, v is what they write, and the first space from e on stands at x
-module _ (on : Bool) (s : List ℕ) (from to to8 e v x : ℕ) (l : from ≤ to) (k : to ≤ length s) (eight : slice from to8 s
-    ≡ take 8 (slice from to s))
-    (at : e ≡ from + length (front (slice from to8 s))) (is : v ≡ decimal 0 (front (slice from to8 s)))
-    (space : x ≡ e + length (up_to 32 (slice e to s))) where
+-- n and v are how many digits the first m bytes begin with, which are at most eight, and what these write; behind them a space or the
+-- end stands k bytes on
+module _ (on : Bool) (rest : List ℕ) (m n v k : ℕ) (few : m ≡ min (length rest) 8) (count : n ≡ length (front (take m rest)))
+    (is : v ≡ decimal 0 (front (take m rest))) (far : k ≡ length (up_to 32 (take (length rest - n) (drop n rest)))) where
   abbrev w : List ℕ
-  w = up_to 32 (slice from to s)
+  w = up_to 32 rest
 
-  digits8 : front (slice from to8 s) ≡ front (take 8 w)
-  digits8 = ap front eight ∙ sym (front_word 8 (slice from to s))
+  abbrev eight : List ℕ
+  eight = take m rest
 
-  at8 : e ≡ from + length (front (take 8 w))
-  at8 = at ∙ ap (λ (ds : List ℕ). from + length ds) digits8
+  x : ℕ
+  x = n + k
 
-  pub word_ends : x ≡ from + length w
+  first : eight ≡ take 8 rest
+  first = ap (λ (j : ℕ). take j rest) (few ∙ omega arith) ∙ take_min 8 rest
+
+  space : x ≡ n + length (up_to 32 (drop n rest))
+  unfolding x
+  space = ap (λ (j : ℕ). n + j) (far ∙ ap (λ (l : List ℕ). length (up_to 32 l)) (take_rest rest n))
+
+  digits8 : front eight ≡ front (take 8 w)
+  digits8 = ap front first ∙ sym (front_word 8 rest)
+
+  count8 : n ≡ length (front (take 8 w))
+  count8 = count ∙ ap length digits8
+
+  pub word_ends : n + k ≡ length w
+  unfolding x
   word_ends =
-      let n = length (front (take 8 (slice from to s))) in
-      let f : e ≡ from + n = at ∙ ap (λ (ds : List ℕ). from + length (front ds)) eight in
-      let rest : slice e to s ≡ drop n (slice from to s) = ap (λ (j : ℕ). slice j to s) f ∙ sym (drop-drop n from (take to s)) in
-      omega (arith, up_digits 8 (slice from to s), ap (λ (ys : List ℕ). length (up_to 32 ys)) rest)
+      let e : n ≡ length (front (take 8 rest)) = count ∙ ap (λ (l : List ℕ). length (front l)) first in
+      space ∙ omega (arith, up_digits 8 rest, ap (λ (j : ℕ). length (up_to 32 (drop j rest))) e)
 
-  all : e - from ≤ 7 → front (slice from to8 s) ≡ front w
-  all h = digits8 ∙ front_short 8 w (omega (arith, at8))
+  all : n ≤ 7 → front eight ≡ front w
+  all h = digits8 ∙ front_short 8 w (omega (arith, count8))
 
-  count : e - from ≤ 7 → e ≡ from + length (front w)
-  count h = at ∙ ap (λ (ds : List ℕ). from + length ds) (all h)
+  counts : n ≤ 7 → n ≡ length (front w)
+  counts h = count ∙ ap length (all h)
 
-  head : from < e → num (front w) 0 ≡ get_or s from 0
+  head : 0 < n → num (front w) 0 ≡ num rest 0
   head h =
       let some = front_most 8 w in
-      let Within-word = front_length w in
-      let within_line = length_up_to 32 (slice from to s) in
-      let short = length-slice from to s k in
-      front_head w (omega (arith, at8)) ∙ up_head 32 (slice from to s) (omega (arith, at8)) ∙ rw (part s from to (omega (arith, at8)) k)
+      let within_word = front_length w in
+      front_head w (omega (arith, count8)) ∙ up_head 32 rest (omega (arith, count8))
 
-  pub no_digit : e ≡ from → Bad ≡ unsigned on w
-  no_digit h = unsigned_bad on w (allowed_none (front w) (omega (arith, count (omega arith))))
+  -- the token where the digits are allowed, and where they are not
+  pub a_number : 1 ≤ n → n ≤ 7 → (num rest 0 ≡ 48 → n ≡ 1) → numbered on v (eqb n (n + k)) ≡ unsigned on w
+  unfolding x
+  a_number some small z =
+      let l = length (front w) in
+      let c = counts small in
+      let zero : num (front w) 0 ≡ 48 → l ≤ 1 = λ p. omega (arith, z (sym (head some) ∙ p)) in
+      let ends : eqb n (n + k) ≡ eqb l (length w) =
+      same_test n (n + k) l (length w) (λ p. omega (arith, word_ends)) (λ p. omega (arith, word_ends)) in
+      rw (ends, is, all small) (unsigned_value on w (allowed_is (front w) (omega arith) (omega arith) zero))
 
-  pub too_long : 7 < e - from → Bad ≡ unsigned on w
-  too_long h = unsigned_bad on w (allowed_long (front w) (omega (arith, at8, front_most 8 w)))
-
-  pub leading_zero : get_or s from 0 ≡ 48 → 1 < e - from → Bad ≡ unsigned on w
-  leading_zero z h = unsigned_bad on w (allowed_zero (front w) (head (omega arith) ∙ z) (omega (arith, at8, front_most 8 w)))
-
-  pub a_number : from < e → e - from ≤ 7 → (get_or s from 0 ≡ 48 → e - from ≤ 1) → numbered on v (eqb e x) ≡ unsigned on w
-  a_number some few z =
-      let n = length (front w) in
-      let c = count few in
-      let zero : num (front w) 0 ≡ 48 → n ≤ 1 = λ p. omega (arith, z (sym (head some) ∙ p)) in
-      let ends : eqb e x ≡ eqb n (length w) = same_test e x n (length w) (λ p. omega (arith, word_ends)) (λ p. omega (arith, word_ends)) in
-      rw (ends, is, all few) (unsigned_value on w (allowed_is (front w) (omega arith) (omega arith) zero))
-
-pub is_number : (on whole : Bool) (v : ℕ) → (v ≡ 0 → ⊥) → Number on (v - 1) whole ≡ numbered on v whole
-is_number on whole zero h = absurd (h refl)
-is_number on whole (suc v) h = let e : suc v - 1 ≡ v = omega arith in rw e
+  pub no_number : (1 ≤ n → n ≤ 7 → (num rest 0 ≡ 48) × (n ≡ 1 → ⊥)) → Bad ≡ unsigned on w
+  no_number h = unsigned_bad on w (go (dec_lt 0 n) (dec_lt 7 n))
+    where
+      go : Dec (0 < n) → Dec (7 < n) → allowed (front w) ≡ false
+      go (no z) l = allowed_none (front w) (omega (arith, z, counts (omega (arith, z))))
+      go (yes z) (yes l) = allowed_long (front w) (omega (arith, count8, front_most 8 w))
+      go (yes z) (no l) =
+          let (e, ne) = h z (omega (arith, l)) in
+          allowed_zero (front w) (head z ∙ e) (omega (arith, count8, front_most 8 w, ne))
 
 -- ---- a word of a line
 
-abbrev worded : ℕ → List ℕ → Word
-worded from w = record { token = token w; end = from + length w }
+same_fields : (r q : FirstWord) → r.token ≡ q.token → r.length ≡ q.length → r ≡ q
+same_fields r q t e = λ i. record { token = t i; length = e i }
 
-same_fields : (r q : Word) → r.token ≡ q.token → r.end ≡ q.end → r ≡ q
-same_fields r q t e = λ i. record { token = t i; end = e i }
+-- the library's test for `-`
+abbrev has_minus : List ℕ → Bool
+has_minus rest = pointwise eqb (take 1 rest) (45 ∷ [])
 
-no_sign : (s : List ℕ) (from to : ℕ) → from < to → to ≤ length s → (get_or s from 0 ≡ 45 → ⊥)
-    → unsigned true (up_to 32 (slice from to s)) ≡ token (up_to 32 (slice from to s))
-unfolding token unsigned allowed front up_to
-no_sign s from to h l e = rw (part s from to h l) (go (eqb (get_or s from 0) 32))
+pub minus_word : (r : FirstWord) (rest digits : List ℕ) → has_minus rest ≡ true → digits ≡ drop 1 rest
+    → r.token ≡ unsigned false (up_to 32 digits) → r.length ≡ 1 + length (up_to 32 digits) → r ≡ first_word rest
+unfolding token up_to first_word
+minus_word r [] digits h e t x = absurd (true≢false (sym h))
+minus_word r (b ∷ bs) digits h e t x =
+    let minus : b ≡ 45 = eqb-true b 45 (and_left _ _ h) in
+    let word : eqb b 32 ≡ false = ne_eqb b 32 (λ p. omega arith) in
+    same_fields r _ (t ∙ sym (rw (word, eq-eqb b 45 minus, e))) (x ∙ sym (rw (word, e) (omega arith)))
+
+pub plain_word : (r : FirstWord) (rest : List ℕ) → has_minus rest ≡ false → r.token ≡ unsigned true (up_to 32 rest)
+    → r.length ≡ length (up_to 32 rest) → r ≡ first_word rest
+unfolding token up_to first_word front
+plain_word r [] h t x = same_fields r _ (t ∙ sym (unsigned_bad true [] (allowed_none [] refl))) x
+plain_word r (b ∷ bs) h t x = same_fields r _ (t ∙ no_sign (eqb b 32)) x
   where
+    no_minus : eqb b 45 ≡ false
+    no_minus = go (eqb b 45) h
+      where
+        go : (c : Bool) → (c && true) ≡ false → c ≡ false
+        go true q = q
+        go false q = q
+
     cut_at : Bool → List ℕ
-    cut_at t = cond t [] (get_or s from 0 ∷ up_to 32 (slice (from + 1) to s))
+    cut_at c = cond c [] (b ∷ up_to 32 bs)
 
-    go : (t : Bool) → unsigned true (cut_at t) ≡ token (cut_at t)
-    go true = sym (unsigned_bad true [] (allowed_none [] refl))
-    go false = rw (ne_eqb (get_or s from 0) 45 e)
-
-module _ (s : List ℕ) (from to : ℕ) where
-  pub no_word : to ≤ from → record { token = Bad; end = from } ≡ word_at s from to
-  unfolding token up_to word_at
-  no_word h =
-      let none : up_to 32 (slice from to s) ≡ [] = ap (up_to 32) (part_none s from to h) in
-      same_fields _ (word_at s from to) (sym (ap token none)) (omega (arith, ap length none))
-
-  module _ (r : Word) (h : from < to) (l : to ≤ length s) where
-    pub minus_word : get_or s from 0 ≡ 45 → r.token ≡ unsigned false (up_to 32 (slice (from + 1) to s)) → r.end
-        ≡ from + 1 + length (up_to 32 (slice (from + 1) to s))
-        → r ≡ word_at s from to
-    unfolding token up_to word_at
-    minus_word e t x =
-        let b : eqb (get_or s from 0) 32 ≡ false = ne_eqb (get_or s from 0) 32 (λ p. omega arith) in
-        same_fields r _ (t ∙ sym (rw (part s from to h l, b, eq-eqb (get_or s from 0) 45 e)))
-        (x ∙ sym (rw (part s from to h l, b) (omega arith)))
-
-    pub plain_word : (get_or s from 0 ≡ 45 → ⊥) → r.token ≡ unsigned true (up_to 32 (slice from to s)) → r.end
-        ≡ from + length (up_to 32 (slice from to s))
-        → r ≡ word_at s from to
-    unfolding word_at
-    plain_word e t x = same_fields r _ (t ∙ no_sign s from to h l e) x
-
--- a line that runs past the text ends with it
-pub same_word : (s : List ℕ) (from e to : ℕ) → take e s ≡ take to s → word_at s from e ≡ word_at s from to
-unfolding word_at
-same_word s from e to h = ap (λ (l : List ℕ). worded from (up_to 32 (drop from l))) h
+    no_sign : (c : Bool) → unsigned true (cut_at c) ≡ token (cut_at c)
+    no_sign true = sym (unsigned_bad true [] (allowed_none [] refl))
+    no_sign false = rw no_minus

@@ -13,6 +13,8 @@ use Rattle.lists.specs.Numerals.{digit, higher, digits_below, numeral}
 use Rattle.lists.proofs.Logic.{split}
 use Rattle.lists.proofs.TestLaws.{within_is}
 use Rattle.lists.proofs.NumeralLaws.{length_some, length_few, Digits, digits_numeral, NoLeadingZero, leading_numeral}
+use Rattle.job.specs.declared.Literal.TheVariants.{On, Off}
+use Rattle.job.specs.Literals.{valued}
 use Rattle.tokens.specs.declared.Token.TheVariants.{Number}
 use Rattle.tokens.specs.Numbers.{front, decimal, allowed, max_number, unsigned, token}
 
@@ -59,7 +61,7 @@ allowed_numeral x l =
       ne_eqb (num (numeral (suc x)) 0) (digit 0) (not_zero_first (numeral (suc x)) (leading_numeral x)),
     )
 
-unsigned_numeral : (on : Bool) (x : ℕ) → suc x ≤ max_number → unsigned on (numeral (suc x)) ≡ Number on x true
+unsigned_numeral : (on : Bool) (x : ℕ) → suc x ≤ max_number → unsigned on (numeral (suc x)) ≡ Number (valued on x) true
 unfolding unsigned
 unsigned_numeral on x l =
     rw (
@@ -75,9 +77,9 @@ unfolding token
 digits_token [] h = absurd h
 digits_token (b ∷ bs) h = rw (ne_eqb b 45 (λ e. omega arith))
 
-pub numeral_token : (x : ℕ) → suc x ≤ max_number → token (numeral (suc x)) ≡ Number true x true
+pub numeral_token : (x : ℕ) → suc x ≤ max_number → token (numeral (suc x)) ≡ Number (On x) true
 numeral_token x l = digits_token (numeral (suc x)) (leading_numeral x) ∙ unsigned_numeral true x l
 
-pub minus_token : (x : ℕ) → suc x ≤ max_number → token (45 ∷ numeral (suc x)) ≡ Number false x true
+pub minus_token : (x : ℕ) → suc x ≤ max_number → token (45 ∷ numeral (suc x)) ≡ Number (Off x) true
 unfolding token
 minus_token x l = unsigned_numeral false x l

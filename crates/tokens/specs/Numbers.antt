@@ -1,12 +1,12 @@
 -- One number of a reply (document 01, 'Calls and buffers', Checking): 'no leading zero, no `-0`, at most 7 digits'.
 use Rattle.std.specs.Prelude.{Bool, true, false, not, ◌&&◌, ◌||◌, cond, List, [], ◌∷◌, ℕ, zero, suc, ◌+◌, ◌*◌, ◌-◌, eqb, length}
 use Rattle.lists.specs.Rows.{num}
-use Rattle.std.proofs.Math.Seq.{slice}
 use Rattle.lists.specs.Tests.{within}
 use Rattle.lists.specs.Pieces.{up_to}
+use Rattle.job.specs.Literals.{valued}
 use Rattle.tokens.specs.declared.Token.{Token}
 use Rattle.tokens.specs.declared.Token.TheVariants.{Bad, Zero, Number}
-use Rattle.tokens.specs.declared.Word.{Word}
+use Rattle.tokens.specs.declared.FirstWord.{FirstWord}
 
 -- the digits at the front of a word: 'the number ends before the x' (reading 17)
 unfoldable pub front : List ℕ → List ℕ
@@ -29,7 +29,7 @@ max_number = 9999999
 -- a number by its sign, true for one without `-`: 0 closes, and there is no `-0`; whole where nothing stands behind the digits
 abbrev pub numbered : Bool → ℕ → Bool → Token
 numbered on zero whole = cond (on && whole) Zero Bad
-numbered on (suc x) whole = Number on x whole
+numbered on (suc x) whole = Number (valued on x) whole
 
 unfoldable pub unsigned : Bool → List ℕ → Token
 unsigned on w = cond (allowed (front w)) (numbered on (decimal 0 (front w)) (eqb (length (front w)) (length w))) Bad
@@ -39,6 +39,6 @@ unfoldable pub token : List ℕ → Token
 token [] = Bad
 token (b ∷ bs) = cond (eqb b 45) (unsigned false bs) (unsigned true (b ∷ bs))
 
--- the word at from in a line that ends at to: it goes up to a space, or to the line's end
-unfoldable pub word_at : List ℕ → ℕ → ℕ → Word
-word_at s from to = let w = up_to 32 (slice from to s) in record { token = token w; end = from + length w }
+-- the word at the front of a line's rest: it goes up to a space, or to the line's end
+unfoldable pub first_word : List ℕ → FirstWord
+first_word rest = let w = up_to 32 rest in record { token = token w; length = length w }

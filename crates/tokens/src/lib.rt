@@ -1,25 +1,27 @@
-// The bytes of a reply: where a line or a word ends, how it begins, and one number. Parts go by a slice and two numbers.
+// The bytes of a reply: where a line or a word ends, how a line begins, and one number. Each part is a slice.
 #![tactic(auto)]
 
-ghost use Rattle.std.specs.Prelude.{◌≡◌, ◌+◌, ◌-◌, ◌<◌, ◌≤◌, length, get_or, take};
-ghost use Rattle.std.proofs.Math.Seq.{slice};
-ghost use Rattle.lists.specs.Pieces.{up_to, starts, is};
+ghost use Rattle.std.specs.Prelude.{◌≡◌, ◌≤◌, length};
+ghost use Rattle.lists.specs.Pieces.{up_to};
 ghost use Rattle.tokens.specs.Kinds.{kind_of};
-ghost use Rattle.tokens.specs.Numbers.{front, decimal, numbered as numbered_token, unsigned as unsigned_token, word_at};
+ghost use Rattle.tokens.specs.Numbers.{front, decimal, numbered as numbered_token, unsigned as unsigned_token, first_word};
+
+use job::Literal;
+use memchr::memchr;
 
 // A word between spaces.
-#[derive(Clone, Copy)]
+#[derive(Clone, Copy, PartialEq, Eq, Debug)]
 pub enum Token {
     // No number of a reply.
     Bad,
     // The 0 that closes the numbers.
     Zero,
-    // Number x + 1 with its sign, true without `-`, and whether its digits end the word.
-    Number(bool, usize, bool),
+    // A number with its sign, and whether its digits end the word.
+    Number { literal: Literal, ends: bool },
 }
 
 // A line by how it begins, or by what it is.
-#[derive(Clone, Copy)]
+#[derive(Clone, Copy, PartialEq, Eq, Debug)]
 pub enum Kind {
     Comment,
     Satisfiable,
@@ -28,229 +30,140 @@ pub enum Kind {
     Other,
 }
 
-// A word, and where it ends: at a space, or with its line.
-#[derive(Clone, Copy)]
-pub struct Word {
+// The word at the front of a line's rest, and its length: it ends at a space, or with the line.
+#[derive(Clone, Copy, PartialEq, Eq, Debug)]
+pub struct FirstWord {
     pub token: Token,
-    pub end: usize,
+    pub length: usize,
 }
 
-// Where a part that is to end at to ends: there, or at the text's end.
-fn end(s: &[u8], to: usize) -> usize
-    ensures { (result ≤ length s.now) × (take result s.now ≡ take to s.now) }
+// How many bytes stand in front of the first such byte; all of them where there is none.
+#[tactic(auto, using(crate::proofs::FindLaws::length_up_to_first, crate::proofs::FindLaws::length_up_to_none))]
+pub fn length_up_to(byte: u8, text: &[u8]) -> usize
+    ensures value { result ≡ length (up_to byte text.now) }
+    ensures within { result ≤ length text.now }
 {
-    if to < s.len() { to } else { s.len() }
+    match memchr(byte, text) {
+        Some(length) => length,
+        None => text.len(),
+    }
 }
 
-// Where the first k stands, or where the part ends.
-fn find(s: &[u8], k: u8, from: usize, to: usize) -> usize
-    ensures { result ≡ from + length (up_to k (slice from to s.now)) }
+const SATISFIABLE: &[u8] = b"s SATISFIABLE";
+
+const UNSATISFIABLE: &[u8] = b"s UNSATISFIABLE";
+
+// The kind of a line.
+pub fn kind_of(line: &[u8]) -> Kind
+    ensures { result ≡ kind_of line.now }
 {
-    let e = end(s, to);
-    let mut i = from;
-    while i < e {
-        if s[i] == k {
-            return i;
-        }
-        i += 1;
+    if line.starts_with(b"c") {
+        Kind::Comment
+    } else if line == SATISFIABLE {
+        Kind::Satisfiable
+    } else if line == UNSATISFIABLE {
+        Kind::Unsatisfiable
+    } else if line.starts_with(b"v ") {
+        Kind::Values
+    } else {
+        Kind::Other
     }
-    i
 }
 
-// The same, four bytes a turn: quicker where k stands far on.
-pub fn find_far(s: &[u8], k: u8, from: usize, to: usize) -> usize
-    ensures { result ≡ from + length (up_to k (slice from to s.now)) }
-{
-    let e = end(s, to);
-    if e < 4 {
-        return find(s, k, from, to);
-    }
-    let mut i = from;
-    while i <= e - 4 {
-        if s[i] == k {
-            return i;
-        }
-        if s[i + 1] == k {
-            return i + 1;
-        }
-        if s[i + 2] == k {
-            return i + 2;
-        }
-        if s[i + 3] == k {
-            return i + 3;
-        }
-        i += 4;
-    }
-    find(s, k, i, e)
-}
-
-// The part begins with t.
-fn begins(s: &[u8], from: usize, to: usize, t: &[u8]) -> bool
-    ensures { result ≡ starts t.now (slice from to s.now) }
-{
-    let e = end(s, to);
-    let mut at = from;
-    let mut i: usize = 0;
-    while i < t.len() {
-        if e <= at {
-            return false;
-        }
-        if s[at] != t[i] {
-            return false;
-        }
-        at += 1;
-        i += 1;
-    }
-    true
-}
-
-// The part is t.
-fn is_part(s: &[u8], from: usize, to: usize, t: &[u8]) -> bool
-    requires { (from ≤ to) × (to ≤ length s.now) }
-    ensures { result ≡ is t.now (slice from to s.now) }
-{
-    if to - from != t.len() {
-        return false;
-    }
-    begins(s, from, to, t)
-}
-
-// The kind of a line that begins `s`.
-fn said_at(s: &[u8], from: usize, to: usize) -> Kind
-    requires { (from < to) × (to ≤ length s.now) × (get_or s.now from 0 ≡ 115) }
-    ensures { result ≡ kind_of (slice from to s.now) }
-{
-    if is_part(s, from, to, b"s SATISFIABLE") {
-        return Kind::Satisfiable;
-    }
-    if is_part(s, from, to, b"s UNSATISFIABLE") {
-        return Kind::Unsatisfiable;
-    }
-    Kind::Other
-}
-
-// The kind of the line that is this part, told by its first byte where that is enough.
-pub fn kind_at(s: &[u8], from: usize, to: usize) -> Kind
-    ensures { result ≡ kind_of (slice from to s.now) }
-{
-    let e = end(s, to);
-    if e <= from {
-        return Kind::Other;
-    }
-    if s[from] == b'c' {
-        return Kind::Comment;
-    }
-    if s[from] == b's' {
-        return said_at(s, from, e);
-    }
-    if begins(s, from, e, b"v ") {
-        return Kind::Values;
-    }
-    Kind::Other
-}
-
-// Where the digits at the front of a part end, and the number that they write.
+// The digits at the front of a part: how many, and the number that they write.
 #[derive(Clone, Copy)]
 struct Front {
-    pub end: usize,
-    pub value: usize,
+    count: usize,
+    value: usize,
 }
 
-// Eight digits are too many already: no more bytes of a number are looked at.
-fn eight_bytes(s: &[u8], from: usize, to: usize) -> usize
-    requires { (from ≤ to) × (to ≤ length s.now) }
-    ensures { (from ≤ result) × (result ≤ to) × (result - from ≤ 8) × (slice from result s.now ≡ take 8 (slice from to s.now)) }
+// More bytes are too many: eight digits already write no number of a reply.
+fn digits(part: &[u8]) -> Front
+    requires { length part.now ≤ 8 }
+    ensures within { result.count ≤ length part.now }
+    ensures count { result.count ≡ length (front part.now) }
+    ensures value { result.value ≡ decimal 0 (front part.now) }
 {
-    if to - from <= 8 { to } else { from + 8 }
-}
-
-// The digits of at most eight bytes.
-fn digits(s: &[u8], from: usize, to: usize) -> Front
-    requires { (from ≤ to) × (to ≤ length s.now) × (to - from ≤ 8) }
-    ensures { (result.end ≡ from + length (front (slice from to s.now))) × (from ≤ result.end) × (result.end ≤ to)
-        × (result.value ≡ decimal 0 (front (slice from to s.now))) }
-{
-    let mut v: usize = 0;
-    let mut i = from;
-    while i < to {
-        if s[i] < 48 {
-            return Front { end: i, value: v };
+    let mut value = 0;
+    for i in 0..part.len() {
+        if !part[i].is_ascii_digit() {
+            return Front { count: i, value };
         }
-        if 57 < s[i] {
-            return Front { end: i, value: v };
-        }
-        v = v * 10 + (s[i] as usize - 48);
-        i += 1;
+        value = value * 10 + usize::from(part[i] - b'0');
     }
-    Front { end: i, value: v }
+    Front {
+        count: part.len(),
+        value,
+    }
 }
 
 // A number by its sign: 0 closes, and there is no `-0`.
-fn numbered(on: bool, v: usize, whole: bool) -> Token
-    ensures { result ≡ numbered_token on v whole }
+fn numbered(plain: bool, value: usize, ends: bool) -> Token
+    ensures { result ≡ numbered_token plain value ends }
 {
-    if v == 0 {
-        if on {
-            if whole {
-                return Token::Zero;
+    if value == 0 {
+        if plain && ends {
+            Token::Zero
+        } else {
+            Token::Bad
+        }
+    } else {
+        let place = value - 1;
+        let literal = if plain {
+            Literal::On(place)
+        } else {
+            Literal::Off(place)
+        };
+        Token::Number { literal, ends }
+    }
+}
+
+// What is left of a word behind its digits: most often nothing, and then no search is called.
+fn length_of_tail(rest: &[u8]) -> usize
+    ensures value { result ≡ length (up_to 32 rest.now) }
+    ensures within { result ≤ length rest.now }
+{
+    if rest.starts_with(b" ") {
+        0
+    } else {
+        length_up_to(b' ', rest)
+    }
+}
+
+// A number behind its sign, at the front of a line's rest. Digits that a space or the line's end follows end the word; only any other
+// word is looked through for its end.
+fn unsigned(plain: bool, rest: &[u8]) -> FirstWord
+    ensures within { result.length ≤ length rest.now }
+    ensures token { result.token ≡ unsigned_token plain (up_to 32 rest.now) }
+    ensures length { result.length ≡ length (up_to 32 rest.now) }
+{
+    let front = digits(&rest[..rest.len().min(8)]);
+    let count = front.count;
+    let length = count + length_of_tail(&rest[count..]);
+    if count == 0 || 7 < count || (1 < count && rest[0] == b'0') {
+        return FirstWord {
+            token: Token::Bad,
+            length,
+        };
+    }
+    FirstWord {
+        token: numbered(plain, front.value, count == length),
+        length,
+    }
+}
+
+// The word at the front of a line's rest.
+pub fn first_word(rest: &[u8]) -> FirstWord
+    ensures { result ≡ first_word rest.now }
+{
+    match rest.strip_prefix(b"-") {
+        Some(digits) => {
+            let word = unsigned(false, digits);
+            FirstWord {
+                token: word.token,
+                length: 1 + word.length,
             }
         }
-        return Token::Bad;
+        None => unsigned(true, rest),
     }
-    Token::Number(on, v - 1, whole)
-}
-
-// A number behind its sign. Digits that a space or the line's end follows end the word; only any other word is looked through for its end.
-fn unsigned(s: &[u8], on: bool, from: usize, to: usize) -> Word
-    requires { (from ≤ to) × (to ≤ length s.now) }
-    ensures { (result.token ≡ unsigned_token on (up_to 32 (slice from to s.now)))
-        × (result.end ≡ from + length (up_to 32 (slice from to s.now))) }
-{
-    let d = digits(s, from, eight_bytes(s, from, to));
-    let e = d.end;
-    let end = find(s, 32, e, to);
-    if e == from {
-        return Word {
-            token: Token::Bad,
-            end,
-        };
-    }
-    if 7 < e - from {
-        return Word {
-            token: Token::Bad,
-            end,
-        };
-    }
-    if s[from] == 48 {
-        if 1 < e - from {
-            return Word {
-                token: Token::Bad,
-                end,
-            };
-        }
-    }
-    Word {
-        token: numbered(on, d.value, e == end),
-        end,
-    }
-}
-
-// The word that starts here in a line that ends at to.
-pub fn word_at(s: &[u8], from: usize, to: usize) -> Word
-    ensures { result ≡ word_at s.now from to }
-{
-    let e = end(s, to);
-    if e <= from {
-        return Word {
-            token: Token::Bad,
-            end: from,
-        };
-    }
-    let mut on = true;
-    let mut at = from;
-    if s[from] == 45 {
-        on = false;
-        at = from + 1;
-    }
-    unsigned(s, on, at, e)
 }

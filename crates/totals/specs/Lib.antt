@@ -1,5 +1,4 @@
 -- What the calls answer, and below it how the code reckons it.
-pub mod Answers
 pub mod Totals
 pub mod Layout
 pub mod ByCounts

@@ -1,38 +1,25 @@
--- `range` reads one digit from 1 to 9, and a second where one follows.
-use Rattle.fields.proofs.FieldLaws.{range_no, range_two, range_one}
-use Rattle.fields.specs.Fields.{digit}
-use Rattle.lists.proofs.TestLaws.{within_under, within_over, within_is}
-use mathlib.Core.Path.{sym, ap, ◌∙◌}
+-- R begins in the line, so the cursor can move past it.
+use mathlib.Core.Path.{ap, sym, ◌∙◌}
+use native.Mathlib.Omega.{arith}
+use Rattle.lists.specs.Tests.{within}
+use Rattle.fields.proofs.CursorLaws.{within_in}
 use Rattle.fields.proofs.range.Goals as goal
+use Rattle.fields.proofs.range.Goals.{then-is_ascii_digit, else-is_ascii_digit}
 
-pub returns-then-b-lt49 : goal.returns-then-b-lt49
-returns-then-b-lt49 c =
-    let args' = c.args in
-    let byte_at' = c.byte_at-b in
-    range_no args'.s.now args'.at byte_at'.result byte_at'.ensures (within_under 49 57 _ c.if-b-lt49.true)
+pub overflow_add-at : goal.overflow_add-at
+overflow_add-at c =
+    let a = c.args in
+    let read = ap (within 49 57) (sym c.get_or.ensures) ∙ sym c.within.ensures ∙ c.if-not-within.false in
+    let good = c.well_formed in
+    omega (arith, good, within_in 48 57 a.s.now a.at.column read)
 
-pub returns-then-b-gt57 : goal.returns-then-b-gt57
-returns-then-b-gt57 c =
-    let args' = c.args in
-    let byte_at' = c.byte_at-b in
-    range_no args'.s.now args'.at byte_at'.result byte_at'.ensures (within_over 49 57 _ c.if-b-gt57.true)
-
-pub returns-then-is_digit : goal.returns-then-is_digit
-returns-then-is_digit c =
-    let args' = c.args in
-    let byte_at' = c.byte_at-b in
-    let if1' = c.if-b-lt49 in
-    let if2' = c.if-b-gt57 in
-    let byte_at2' = c.byte_at in
-    let second = ap digit (sym byte_at2'.ensures) ∙ sym c.is_digit.ensures ∙ c.if-is_digit.true in
-    range_two args'.s.now args'.at byte_at'.result byte_at'.ensures (within_is 49 57 _ if1'.false if2'.false) second
-
-pub returns-else-is_digit : goal.returns-else-is_digit
-returns-else-is_digit c =
-    let args' = c.args in
-    let byte_at' = c.byte_at-b in
-    let if1' = c.if-b-lt49 in
-    let if2' = c.if-b-gt57 in
-    let byte_at2' = c.byte_at in
-    let second = ap digit (sym byte_at2'.ensures) ∙ sym c.is_digit.ensures ∙ c.if-is_digit.false in
-    range_one args'.s.now args'.at byte_at'.result byte_at'.ensures (within_is 49 57 _ if1'.false if2'.false) second
+pub overflow_add-result : goal.overflow_add-result
+overflow_add-result c =
+    let a = c.args in
+    let read = ap (within 49 57) (sym c.get_or.ensures) ∙ sym c.within.ensures ∙ c.if-not-within.false in
+    let good = c.well_formed in
+    let inside = within_in 48 57 a.s.now a.at.column read in
+    elim c.if-is_ascii_digit.branch [
+      | then-is_ascii_digit w ↦ let two = w.digits-is in omega arith
+      | else-is_ascii_digit w ↦ let one = w.digits-is in omega arith
+    ]

@@ -1,14 +1,13 @@
 -- The lines kept, `lemmas` and the lemma lines, one behind the other, are the form.
-use native.Mathlib.Omega.{arith}
 use Rattle.job.proofs.FitnessLaws.{fit_lemmas}
 use Rattle.filing.proofs.PartLaws.{going_last}
 use Rattle.filing.proofs.FormLaws.{sized_lemmas, kept_room, word_written, lines_room}
 use Rattle.filing.proofs.put_form.Goals as goal
 
-pub put_kept-a-requires : goal.put_kept-a-requires
-put_kept-a-requires c =
+pub put_kept-requires : goal.put_kept-requires
+put_kept-requires c =
     let a = c.args in
-    kept_room a.text.now a.j a.out.now c.requires.0 c.requires.2
+    kept_room a.text.now a.j a.page.now c.requires.0 c.requires.2
 
 pub file_rows-filed-requires : goal.file_rows-filed-requires
 file_rows-filed-requires c =
@@ -17,20 +16,15 @@ file_rows-filed-requires c =
 pub put_rows-requires : goal.put_rows-requires
 put_rows-requires c =
     let a = c.args in
-    let kept = c.put_kept-a.ensures in
-    let word = c.put_part-b.ensures in
     let rows = c.file_rows-filed.ensures in (
       fit_lemmas a.j c.requires.0,
       rows.0,
-      rw rows.1 (lines_room a.text.now a.j a.out.now c.requires.0 c.requires.2 kept.0 kept.1 word),
+      rw rows.1 (lines_room a.text.now a.j a.page.now c.requires.0 c.requires.2 c.put_kept.ensures c.part.ensures),
     )
 
 pub returns : goal.returns
 returns c =
     let a = c.args in
-    let kept = c.put_kept-a.ensures in
-    let word = c.put_part-b.ensures in
     let rows = c.file_rows-filed.ensures in
     let lines = rw rows.1 at c.put_rows.ensures in
-    let (n, v) = going_last (word_written a.text.now a.j a.out.now c.requires.0 c.requires.2 kept.0 kept.1 word) lines.0 lines.1 in
-    (omega arith, v)
+    going_last (word_written a.text.now a.j a.page.now c.requires.0 c.requires.2 c.put_kept.ensures c.part.ensures) lines

@@ -17,10 +17,10 @@ front_grows a k n xs ys within fits =
     ap (take n) (drop_at (take a xs) (ys ++ post_of a k xs) a (length-take-le a xs within)) ∙ take-append-le n ys (post_of a k xs) fits in
     ap (λ l. l ++ take n ys) (sym front) ∙ ap (λ l. take a (put_mid a k xs ys) ++ l) (sym part) ∙ sym (take-add a n (put_mid a k xs ys))
 
-pub loop-done-preserved : goal.loop-done-preserved
-loop-done-preserved g c =
-    let done = c.loop-done.done in
-    let space = c.loop-done.space in
-    let within : done ≤ length space = omega (arith, c.loop-done.invariant.0) in
-    let grown = front_grows done (length space - done) c.in-Ok.n space c.read.new.buf within c.in-Ok.ensures.bound.0 in
-    (search rules, subst (Consumes _ _) grown (Consumes-trans _ _ _ _ _ c.loop-done.invariant.1 c.in-Ok.ensures.bytes.0))
+pub loop-count-preserved : goal.loop-count-preserved
+loop-count-preserved g c =
+    let count = c.loop-count.count in
+    let space = c.loop-count.space in
+    let within : count ≤ length space = omega (arith, c.loop-count.invariant.0) in
+    let grown = front_grows count (length space - count) c.in-Ok.n space c.read.new.buf within c.in-Ok.ensures.bound.0 in
+    (search rules, subst (Consumes _ _) grown (Consumes-trans _ _ _ _ _ c.loop-count.invariant.1 c.in-Ok.ensures.bytes.0))

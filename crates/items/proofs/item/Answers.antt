@@ -1,19 +1,15 @@
--- The name goes up to the next space or the line's end, which is where the cursor moves on to.
-use mathlib.Core.Path.{ap, ◌∙◌}
-use Rattle.scan.proofs.WordLaws.{word_fits, word_part}
-use Rattle.items.specs.Items.{known_in, item_field}
+-- The name lies in the line, so the cursor can move past it.
+use mathlib.Core.Path.{ap}
+use mathlib.Core.List.{List}
+use Prim.Native.Nat.{ℕ}
+use native.Mathlib.Omega.{arith}
+use lib.ListN.{length, drop, length-drop}
+use Rattle.lists.proofs.PieceLaws.{length_up_to}
 use Rattle.items.proofs.item.Goals as goal
 
-pub item_of-named-requires : goal.item_of-named-requires
-item_of-named-requires c =
+pub overflow_add-result : goal.overflow_add-result
+overflow_add-result c =
     let a = c.args in
-    word_fits 32 a.s.now a.at.column c.end_of-to.result c.end_of-to.ensures
-
-pub returns : goal.returns
-unfolding item_field
-returns c =
-    let a = c.args in
-    let to = c.end_of-to in
-    let word = word_part 32 a.s.now a.at.column to.result to.ensures in
-    let named = c.item_of-named.ensures ∙ ap (known_in a.labels.now a.names.now a.m a.n) word in
-    λ i. record { named = named i; at = record { line = a.at.line; column = to.ensures i } }
+    let long = ap (λ (w : List ℕ). length w) c.word-name.ensures in
+    let good = c.well_formed in
+    omega (arith, long, length_up_to 32 (drop a.at.column a.s.now), length-drop a.at.column a.s.now, good)

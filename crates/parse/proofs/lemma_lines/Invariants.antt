@@ -8,8 +8,8 @@ use Rattle.parse.proofs.lemma_lines.Given as goal
 
 abbrev pub invariant-loop-at : goal.invariant-loop-at
 invariant-loop-at l =
-    (l.n ≤ l.at) × (l.j.program ≡ l.initial.j.program)
-    × (lemma_lines l.initial.j l.before (lines (drop l.from l.text)) ≡ lemma_lines l.j l.n (lines (drop l.at l.text)))
+    (l.n ≤ l.at) × (l.job.program ≡ l.initial.job.program)
+    × (lemma_lines l.initial.job l.before (lines (drop l.from l.text)) ≡ lemma_lines l.job l.n (lines (drop l.at l.text)))
 
 abbrev pub decreases-loop-at : goal.decreases-loop-at
 decreases-loop-at l = length l.text - l.at

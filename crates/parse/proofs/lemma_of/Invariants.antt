@@ -8,9 +8,9 @@ use Rattle.parse.proofs.lemma_of.Given as goal
 
 abbrev pub invariant-loop-at : goal.invariant-loop-at
 invariant-loop-at l =
-    (l.at ≤ length l.s) × (l.k ≤ max_names) × (l.j.lemmas < max_lemmas) × (l.j.program.steps ≤ max_steps)
-    × (l.j.program.variables ≤ max_steps)
-    × (lemma l.initial.j l.n 0 (words l.s) ≡ lemma l.j l.n l.k (words (drop l.at l.s)))
+    (l.at ≤ length l.s) × (l.k ≤ max_names) × (l.job.lemmas < max_lemmas) × (l.job.program.steps ≤ max_steps)
+    × (l.job.program.variables ≤ max_steps)
+    × (lemma l.initial.job l.n 0 (words l.s) ≡ lemma l.job l.n l.k (words (drop l.at l.s)))
 
 abbrev pub decreases-loop-at : goal.decreases-loop-at
 decreases-loop-at l = length l.s - l.at

@@ -10,8 +10,8 @@ use Rattle.program.proofs.program_lines.Given as goal
 
 abbrev pub invariant-loop-at : goal.invariant-loop-at
 invariant-loop-at l =
-    (l.n ≤ l.at) × (l.at ≤ max_text + 1) × Within l.d
-    × (program l.initial.d l.from 1 (lines (drop l.from l.text)) ≡ program l.d l.at l.n (lines (drop l.at l.text)))
+    (l.n ≤ l.at) × (l.at ≤ max_text + 1) × Within l.draft
+    × (program l.initial.draft l.from 1 (lines (drop l.from l.text)) ≡ program l.draft l.at l.n (lines (drop l.at l.text)))
 
 abbrev pub decreases-loop-at : goal.decreases-loop-at
 decreases-loop-at l = length l.text - l.at

@@ -1,28 +1,27 @@
 -- The name goes on while its bytes are not 0, up to four; such a byte stands in the table.
-use native.Mathlib.Omega.{arith}
+use Rattle.std.proofs.Common.{◌≡◌, arith}
 use Rattle.lists.proofs.PlaceLaws.{first_zero}
 use Rattle.put.proofs.NameLaws.{name_ends, name_full, name_goes_on}
 use Rattle.put.proofs.name_length.Goals as goal
 
 pub loop-i-init : goal.loop-i-init
-loop-i-init c = (omega arith, first_zero _, omega arith)
+loop-i-init c = (first_zero _, omega arith)
 
-pub returns-then-byte_at-eq0 : goal.returns-then-byte_at-eq0
-returns-then-byte_at-eq0 c =
-    let start = c.before.before in
-    let o = c.loop-i in (
-      name_ends start.args.names.now start.args.k o.i c.byte_at.result c.loop-i-test.true o.invariant.1 c.byte_at.ensures
-          c.if-byte_at-eq0.true,
-      o.invariant.2,
-    )
+pub returns-then-get_or-eq0 : goal.returns-then-get_or-eq0
+returns-then-get_or-eq0 c =
+    let a = c.args in
+    let o = c.loop-i in
+    (name_ends a.names.now a.k o.i c.get_or.result (omega arith) o.invariant.0 c.get_or.ensures c.if-get_or-eq0.true, o.invariant.1)
 
 pub loop-i-preserved : goal.loop-i-preserved
 loop-i-preserved c =
     let o = c.loop-i in
-    let (n, l) = name_goes_on c.args.names.now c.args.k o.i c.byte_at.result o.invariant.1 c.byte_at.ensures c.if-byte_at-eq0.false in
-    (omega arith, n, omega arith)
+    let (goes, inside) = name_goes_on c.args.names.now c.args.k o.i c.get_or.result o.invariant.0 c.get_or.ensures c.if-get_or-eq0.false in
+    (goes, omega arith)
 
 pub returns : goal.returns
 returns c =
     let o = c.loop-i in
-    (name_full c.args.names.now c.args.k o.i (omega arith) o.invariant.1, o.invariant.2)
+    let e : o.i ≡ 4 = omega arith in
+    let n = name_full c.args.names.now c.args.k o.i e o.invariant.0 in
+    (omega (arith, e, n), rw e at o.invariant.1)

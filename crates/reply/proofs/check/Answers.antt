@@ -1,62 +1,61 @@
 -- The tests come in 01's order; a reply that is read leaves its values in the buffer, and its clauses decide.
-use native.Mathlib.Omega.{arith}
-use Rattle.totals.proofs.AnswerLaws.{totals_fit, totals_unfit}
-use Rattle.reply.proofs.CheckLaws.{is_45, is_51, is_60, is_refused, is_accepted_lem, is_65}
+use Rattle.reply.proofs.LineLaws.{passed_on}
+use Rattle.reply.proofs.CheckLaws.{h, not_unfit, is_45, is_51, is_60, is_refused, is_accepted_lem, is_65}
 use Rattle.reply.proofs.check.Goals as goal
 
-pub returns-in_default : goal.returns-in_default
-returns-in_default c =
-    let a = c.args in
-    let t = c.totals in
-    let unfit = (totals_unfit a.j t.result t.ensures c.in_default.field-0 c.in_default.is).0 in
-    rw c.refused.ensures (is_45 a.j a.reply.now a.work.now unfit)
+pub returns-in_err-fit : goal.returns-in_err-fit
+returns-in_err-fit c =
+    let (unfit, refusal) = c.in_err-fit.ensures in
+    rw (passed_on _ _ c.from_residual.ensures, refusal) (is_45 c.args.j c.args.reply.now c.args.work.now unfit)
 
-pub returns-then-work-n : goal.returns-then-work-n
-returns-then-work-n c =
+pub returns-then-work-header : goal.returns-then-work-header
+returns-then-work-header c =
     let a = c.args in
-    let t = c.totals in
-    let k = totals_fit a.j t.result t.ensures c.in-Totals.n c.in-Totals.clauses c.in-Totals.is in
-    rw c.refused-then-work-n.ensures (is_51 a.j a.reply.now a.work.now k.0 c.in-Totals.n k.1 c.if-work-n.true)
+    let f = c.in_ok-fit in
+    let t = c.header_of-header in
+    rw c.into.ensures (is_51 a.j a.reply.now a.work.now f.fit f.ensures t.result t.ensures c.if-work-header.true)
 
 pub returns-then-reply-gt-MOST_BYTES : goal.returns-then-reply-gt-MOST_BYTES
 returns-then-reply-gt-MOST_BYTES c =
     let a = c.args in
-    let t = c.totals in
-    let k = totals_fit a.j t.result t.ensures c.in-Totals.n c.in-Totals.clauses c.in-Totals.is in
-    rw c.refused-then-reply-gt-MOST_BYTES.ensures (is_60 a.j a.reply.now a.work.now k.0 c.in-Totals.n k.1 (omega arith)
-    c.if-reply-gt-MOST_BYTES.true)
+    let f = c.in_ok-fit in
+    let t = c.header_of-header in
+    let long = is_60 a.j a.reply.now a.work.now f.fit f.ensures t.result t.ensures c.if-work-header.false c.if-reply-gt-MOST_BYTES.true in
+    rw c.into-then-reply-gt-MOST_BYTES.ensures long
 
-pub returns-in_default-read : goal.returns-in_default-read
-returns-in_default-read c =
+pub returns-in_err-read_reply : goal.returns-in_err-read_reply
+returns-in_err-read_reply c =
     let a = c.args in
-    let t = c.totals in
-    let k = totals_fit a.j t.result t.ensures c.in-Totals.n c.in-Totals.clauses c.in-Totals.is in
-    let r = c.read_reply-read in
-    is_refused a.j a.reply.now a.work.now k.0 c.in-Totals.n k.1 (omega arith) (omega arith)
-    r.result r.new.work r.ensures c.in_default-read.field-0 c.in_default-read.is
+    let f = c.in_ok-fit in
+    let t = c.header_of-header in
+    let r = c.read_reply in
+    rw (passed_on _ _ c.from_residual-in_err-read_reply.ensures)
+    (is_refused a.j a.reply.now a.work.now f.fit f.ensures t.result t.ensures c.if-work-header.false c.if-reply-gt-MOST_BYTES.false
+    r.result r.new.work r.ensures _ c.in_err-read_reply.was)
 
-pub false_clause-f-requires : goal.false_clause-f-requires
-false_clause-f-requires c =
+pub returns-in_err-first_false : goal.returns-in_err-first_false
+returns-in_err-first_false c =
     let a = c.args in
-    let t = c.totals in
-    (totals_fit a.j t.result t.ensures c.in-Totals.n c.in-Totals.clauses c.in-Totals.is).0
+    let f = c.in_ok-fit in
+    let t = c.header_of-header in
+    let fits = h a.j a.reply.now a.work.now f.fit f.ensures t.result t.ensures in
+    absurd (not_unfit a.j fits c.read_reply.new.work c.false_clause.result c.false_clause.ensures _ c.in_err-first_false.was)
 
-pub returns-then-clauses-f : goal.returns-then-clauses-f
-returns-then-clauses-f c =
+pub returns-then-first_false-header : goal.returns-then-first_false-header
+returns-then-first_false-header c =
     let a = c.args in
-    let t = c.totals in
-    let k = totals_fit a.j t.result t.ensures c.in-Totals.n c.in-Totals.clauses c.in-Totals.is in
-    let r = c.read_reply-read in
-    let f = c.false_clause-f in
-    is_accepted_lem a.j a.reply.now a.work.now k.0 c.in-Totals.n k.1 (omega arith) (omega arith)
-    r.result r.new.work r.ensures c.in-Accepted.is c.in-Totals.clauses f.result k.2 f.ensures (omega arith)
+    let f = c.in_ok-fit in
+    let t = c.header_of-header in
+    let r = c.read_reply in
+    rw c.at.ensures
+    (is_65 a.j a.reply.now a.work.now f.fit f.ensures t.result t.ensures c.if-work-header.false c.if-reply-gt-MOST_BYTES.false
+    r.result r.new.work r.ensures _ c.in_ok-read_reply.was _ c.false_clause.ensures _ c.in_ok-first_false.was c.if-first_false-header.true)
 
 pub returns : goal.returns
 returns c =
     let a = c.args in
-    let t = c.totals in
-    let k = totals_fit a.j t.result t.ensures c.in-Totals.n c.in-Totals.clauses c.in-Totals.is in
-    let r = c.read_reply-read in
-    let f = c.false_clause-f in
-    rw c.refused-2.ensures (is_65 a.j a.reply.now a.work.now k.0 c.in-Totals.n k.1 (omega arith) (omega arith)
-    r.result r.new.work r.ensures c.in-Accepted.is c.in-Totals.clauses f.result k.2 f.ensures (omega arith))
+    let f = c.in_ok-fit in
+    let t = c.header_of-header in
+    let r = c.read_reply in
+    is_accepted_lem a.j a.reply.now a.work.now f.fit f.ensures t.result t.ensures c.if-work-header.false c.if-reply-gt-MOST_BYTES.false
+    r.result r.new.work r.ensures _ c.in_ok-read_reply.was _ c.false_clause.ensures _ c.in_ok-first_false.was c.if-first_false-header.false

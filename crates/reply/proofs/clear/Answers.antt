@@ -1,18 +1,6 @@
--- The loop writes one 0 more of the row.
-use mathlib.Core.Path.{refl, ap, ◌∙◌}
-use mathlib.Core.List.{List}
-use Prim.Native.Nat.{ℕ}
-use native.Mathlib.Omega.{arith}
-use lib.ListN.{length-set, set}
-use Rattle.lists.proofs.WritingLaws.{front_none, front_put}
+-- The whole buffer is filled with zeros.
+use Rattle.reply.proofs.ReplyLaws.{filled}
 use Rattle.reply.proofs.clear.Goals as goal
 
-pub loop-x-init : goal.loop-x-init
-loop-x-init c = (omega arith, front_none (λ x. 0) c.args.work.now, refl)
-
-pub loop-x-preserved : goal.loop-x-preserved
-loop-x-preserved c =
-    let a = c.args in
-    let l = c.loop-x in
-    let put = front_put (λ x. 0) a.work.now l.x (omega arith) 0 refl in
-    (omega arith, ap (λ (w : List ℕ). set w l.x 0) l.invariant.1 ∙ put, length-set l.work l.x 0 ∙ l.invariant.2)
+pub returns : goal.returns
+returns c = filled c.args.work.now _ (c.fill.ensures.after (λ y h. h))

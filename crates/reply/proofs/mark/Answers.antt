@@ -1,25 +1,9 @@
 -- The tests come in the definition's order: past N, twice, what stands behind the digits; then the mark is stored.
-use mathlib.Core.Bool.{true, false}
-use native.Mathlib.Omega.{arith}
+use Rattle.std.proofs.Common.{sym, ap, ◌∙◌}
+use Rattle.lists.specs.Rows.{num}
 use Rattle.reply.proofs.LineLaws.{say_past, say_twice, say_loose, say_more}
 use Rattle.reply.specs.Lines.{say_in}
 use Rattle.reply.proofs.mark.Goals as goal
-
-pub returns-then-n-x : goal.returns-then-n-x
-returns-then-n-x c =
-    let a = c.args in
-    rw c.in-Number.is (say_past a.n a.work.now c.in-Number.on c.in-Number.x c.in-Number.whole (omega arith))
-
-pub returns-then-work-x-ne0 : goal.returns-then-work-x-ne0
-returns-then-work-x-ne0 c =
-    let a = c.args in
-    rw c.in-Number.is (say_twice a.n a.work.now c.in-Number.on c.in-Number.x c.in-Number.whole (omega arith) c.if-work-x-ne0.true)
-
-pub returns-then-not-whole : goal.returns-then-not-whole
-returns-then-not-whole c =
-    let a = c.args in
-    let loose = c.if-not-whole.true in
-    rw c.in-Number.is (say_loose a.n a.work.now c.in-Number.on c.in-Number.x c.in-Number.whole (omega arith) c.if-work-x-ne0.false loose)
 
 pub returns-in-Bad : goal.returns-in-Bad
 unfolding say_in
@@ -29,16 +13,30 @@ pub returns-in-Zero : goal.returns-in-Zero
 unfolding say_in
 returns-in-Zero c = rw c.in-Zero.is
 
-pub returns-then-on : goal.returns-then-on
-returns-then-on c =
-    let a = c.args in
-    let ends = c.if-not-whole.false in
-    rw c.in-Number.is (say_more a.n a.work.now c.in-Number.on c.in-Number.x c.in-Number.whole (omega arith) c.if-work-x-ne0.false ends
-    true c.if-on.true)
+pub returns-then-work-place : goal.returns-then-work-place
+returns-then-work-place c =
+    let n = c.in-Number in
+    rw n.is (say_past _ c.args.work.now n.literal n.ends (rw c.place_and_mark-place.ensures.place at c.if-work-place.true))
 
-pub returns-else-on : goal.returns-else-on
-returns-else-on c =
-    let a = c.args in
-    let ends = c.if-not-whole.false in
-    rw c.in-Number.is (say_more a.n a.work.now c.in-Number.on c.in-Number.x c.in-Number.whole (omega arith) c.if-work-x-ne0.false ends
-    false c.if-on.false)
+pub returns-then-work-place-ne0 : goal.returns-then-work-place-ne0
+returns-then-work-place-ne0 c =
+    let n = c.in-Number in
+    let at = c.place_and_mark-place.ensures.place in
+    let w = c.args.work.now in
+    rw n.is (say_twice _ w n.literal n.ends (rw at at c.if-work-place.false) (λ e. c.if-work-place-ne0.true (ap (num w) at ∙ e)))
+
+pub returns-then-not-ends : goal.returns-then-not-ends
+returns-then-not-ends c =
+    let n = c.in-Number in
+    let at = c.place_and_mark-place.ensures.place in
+    let w = c.args.work.now in
+    let new = sym (ap (num w) at) ∙ c.if-work-place-ne0.false in
+    rw n.is (say_loose _ w n.literal n.ends (rw at at c.if-work-place.false) new c.if-not-ends.true)
+
+pub returns-else-not-ends : goal.returns-else-not-ends
+returns-else-not-ends c =
+    let n = c.in-Number in
+    let said = c.place_and_mark-place.ensures in
+    let w = c.args.work.now in
+    let new = sym (ap (num w) said.place) ∙ c.if-work-place-ne0.false in
+    rw (said.place, said.mark, n.is) (say_more _ w n.literal n.ends (rw said.place at c.if-work-place.false) new c.if-not-ends.false)

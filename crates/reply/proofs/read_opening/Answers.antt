@@ -1,68 +1,35 @@
--- The loop keeps what is left: the reply opens as its lines from this one on.
-use mathlib.Core.Path.{sym, ap, ◌∙◌}
-use Prim.Native.Nat.{◌+◌}
-use native.Mathlib.Omega.{arith}
-use lib.ListN.{drop}
-use lib.Seq.{slice}
-use Rattle.lists.proofs.PieceLaws.{rest_last, rest_piece}
-use Rattle.lists.specs.Pieces.{cut}
-use Rattle.reply.proofs.LineLaws.{open_last, opens, opens_else, open_kind}
-use Rattle.reply.specs.Lines.{opening}
+-- The line is told by its kind, and the lines behind it are what the reader has left.
+use Rattle.std.proofs.Common.{sym, ◌∙◌}
+use Rattle.reply.proofs.LineLaws.{open_last, open_line, open_other}
 use Rattle.reply.proofs.read_opening.Goals as goal
 
-pub returns-then-end-s : goal.returns-then-end-s
-returns-then-end-s c =
-    let s = c.args.s.now in
-    let l = c.loop-here in
-    let e = c.line_in-here in
-    let rest = rest_last 10 s l.at e.result.end l.invariant.0 e.ensures.0 c.if-end-s.true in
-    (open_last _ l.line ∙ sym (l.invariant.2 ∙ ap (opening l.line) rest), tt)
+pub returns-then-not-line : goal.returns-then-not-line
+returns-then-not-line c =
+    let e = c.next_line-line.ensures in
+    rw (c.at.ensures, e.number) (open_last _ _ _ _ _ _ e.lines e.line c.if-not-line.true ∙ sym c.loop-line.invariant.left)
 
 pub returns-in-Satisfiable : goal.returns-in-Satisfiable
 returns-in-Satisfiable c =
-    let s = c.args.s.now in
-    let l = c.loop-here in
-    let e = c.line_in-here in
-    let more = c.if-end-s.false in
-    let rest = rest_piece 10 s l.at e.result.end l.invariant.0 e.ensures.0 more in
-    let p = slice l.at e.result.end s in
-    let ps = cut 10 (drop (e.result.end + 1) s) in
-    let line = ap (opens p ps l.line) (sym c.in-Satisfiable.is ∙ e.ensures.3) ∙ open_kind p ps l.line in
-    (line ∙ sym (l.invariant.2 ∙ ap (opening l.line) rest), (omega (arith, more), omega arith))
+    let e = c.next_line-line.ensures in
+    let line = open_line _ _ _ _ _ _ e.lines e.line c.if-not-line.false c.next_line-line.result.kind e.kind in
+    rw c.in-Satisfiable.is at line ∙ sym c.loop-line.invariant.left
 
 pub returns-in-Unsatisfiable : goal.returns-in-Unsatisfiable
 returns-in-Unsatisfiable c =
-    let s = c.args.s.now in
-    let l = c.loop-here in
-    let e = c.line_in-here in
-    let more = c.if-end-s.false in
-    let rest = rest_piece 10 s l.at e.result.end l.invariant.0 e.ensures.0 more in
-    let p = slice l.at e.result.end s in
-    let ps = cut 10 (drop (e.result.end + 1) s) in
-    let line = ap (opens p ps l.line) (sym c.in-Unsatisfiable.is ∙ e.ensures.3) ∙ open_kind p ps l.line in
-    (line ∙ sym (l.invariant.2 ∙ ap (opening l.line) rest), tt)
+    let e = c.next_line-line.ensures in
+    let line = open_line _ _ _ _ _ _ e.lines e.line c.if-not-line.false c.next_line-line.result.kind e.kind in
+    rw (c.at-in-Unsatisfiable.ensures, e.number) (rw c.in-Unsatisfiable.is at line ∙ sym c.loop-line.invariant.left)
 
 pub returns-in_default : goal.returns-in_default
 returns-in_default c =
-    let s = c.args.s.now in
-    let l = c.loop-here in
-    let e = c.line_in-here in
-    let more = c.if-end-s.false in
-    let rest = rest_piece 10 s l.at e.result.end l.invariant.0 e.ensures.0 more in
-    let p = slice l.at e.result.end s in
-    let ps = cut 10 (drop (e.result.end + 1) s) in
-    let none = opens_else p ps l.line e.result.kind c.in_default.not-Comment c.in_default.not-Satisfiable c.in_default.not-Unsatisfiable in
-    let line = none ∙ ap (opens p ps l.line) e.ensures.3 ∙ open_kind p ps l.line in
-    (line ∙ sym (l.invariant.2 ∙ ap (opening l.line) rest), tt)
+    let e = c.next_line-line.ensures in
+    let d = c.in_default in
+    let line = open_other _ _ _ _ _ _ e.lines e.line c.if-not-line.false c.next_line-line.result.kind e.kind
+    d.not-Comment d.not-Satisfiable d.not-Unsatisfiable in
+    rw (c.at-in_default.ensures, e.number) (line ∙ sym c.loop-line.invariant.left)
 
-pub loop-here-preserved : goal.loop-here-preserved
-loop-here-preserved c =
-    let s = c.args.s.now in
-    let l = c.loop-here in
-    let e = c.line_in-here in
-    let more = c.if-end-s.false in
-    let rest = rest_piece 10 s l.at e.result.end l.invariant.0 e.ensures.0 more in
-    let p = slice l.at e.result.end s in
-    let ps = cut 10 (drop (e.result.end + 1) s) in
-    let line = ap (opens p ps l.line) (sym c.in-Comment.is ∙ e.ensures.3) ∙ open_kind p ps l.line in
-    (omega (arith, more), omega arith, l.invariant.2 ∙ ap (opening l.line) rest ∙ sym line)
+pub loop-line-preserved : goal.loop-line-preserved
+loop-line-preserved c =
+    let e = c.next_line-line.ensures in
+    let line = open_line _ _ _ _ _ _ e.lines e.line c.if-not-line.false c.next_line-line.result.kind e.kind in
+    record { same = e.same ∙ c.loop-line.invariant.same; left = c.loop-line.invariant.left ∙ sym (rw c.in-Comment.is at line) }

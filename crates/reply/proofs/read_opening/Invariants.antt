@@ -1,15 +1,15 @@
--- The loop keeps what is left: the reply opens as its lines from this one on.
-use mathlib.Core.Path.{◌≡◌}
-use Prim.Native.Nat.{suc, ◌+◌, ◌-◌, ◌≤◌}
-use lib.ListN.{length, drop}
+-- The loop keeps what is left: the lines from the first on come to what the lines from this one on come to.
+use Rattle.std.proofs.Common.{◌≡◌, ◌-◌, length}
 use Rattle.lists.specs.Pieces.{cut}
+use Rattle.reader.specs.Reader.{ahead}
 use Rattle.reply.specs.Lines.{opening}
 use Rattle.reply.proofs.read_opening.Given as goal
 
-abbrev pub invariant-loop-here : goal.invariant-loop-here
-invariant-loop-here l = (l.at ≤ length l.s)
-    × (l.line ≤ l.at + 1)
-    × (opening 1 (cut 10 l.s) ≡ opening l.line (cut 10 (drop l.at l.s)))
+abbrev pub invariant-loop-line : goal.invariant-loop-line
+invariant-loop-line l = record {
+  same : l.reader.text ≡ l.initial.reader.text;
+  left : opening l.initial.reader.line (cut 10 (ahead l.initial.reader)) ≡ opening l.reader.line (cut 10 (ahead l.reader));
+}
 
-abbrev pub decreases-loop-here : goal.decreases-loop-here
-decreases-loop-here l = suc (length l.s) - l.at
+abbrev pub decreases-loop-line : goal.decreases-loop-line
+decreases-loop-line l = length l.reader.text.now - l.reader.at

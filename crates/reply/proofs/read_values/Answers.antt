@@ -1,69 +1,37 @@
--- The loop keeps what is left: the lines from the first on tell what the lines from this one on tell, with the marks so far.
-use mathlib.Core.Path.{sym, ap, ◌∙◌}
-use Prim.Native.Nat.{◌+◌}
-use native.Mathlib.Omega.{arith}
-use borrow.Author.Rules.{rules}
-use lib.ListN.{drop}
-use lib.Seq.{slice}
-use Rattle.lists.proofs.PieceLaws.{rest_last, rest_piece}
-use Rattle.lists.specs.Pieces.{cut}
-use Rattle.reply.proofs.LineLaws.{values_last, values_fault, values_closed, values_more}
-use Rattle.reply.specs.Lines.{value_lines_in}
-use Rattle.reply.specs.Said.{marks}
+-- The line comes to what it comes to, and the lines behind it are what the reader has left.
+use Rattle.std.proofs.Common.{Ok, sym, ap, ◌∙◌}
+use Rattle.reply.proofs.LineLaws.{values_fault, values_last, values_closed, values_more}
 use Rattle.reply.proofs.read_values.Goals as goal
 
-pub returns-then-end-s : goal.returns-then-end-s
-returns-then-end-s c =
-    let a = c.args in
-    let s = a.s.now in
-    let l = c.loop-work in
-    let e = c.line_in-here in
-    let u = c.read_unended in
-    let last = c.if-end-s.true in
-    let rest = rest_last 10 s l.at e.result.end l.invariant.0 e.ensures.0 last in
-    let all = l.invariant.2 ∙ ap (value_lines_in marks a.n l.line l.work) rest in
-    (u.ensures.0 ∙ values_last a.n l.line l.work s l.at e.result.end last ∙ sym all, u.ensures.1)
+pub returns-in-Err : goal.returns-in-Err
+returns-in-Err c =
+    let l = c.loop-progress.invariant in
+    let e = c.next_line-line.ensures in
+    let r = c.read_value_line in
+    let line = values_fault _ _ _ _ _ _ e.lines e.line _ _ l.long _ _ r.ensures c.in-Err.fault c.in-Err.is in
+    rw (c.at.ensures, e.number) (line ∙ sym l.left)
 
-pub returns-in-Fault : goal.returns-in-Fault
-returns-in-Fault c =
-    let a = c.args in
-    let s = a.s.now in
-    let l = c.loop-work in
-    let e = c.line_in-here in
-    let more = c.if-end-s.false in
-    let r = c.read_value_line-r in
-    let rest = rest_piece 10 s l.at e.result.end l.invariant.0 e.ensures.0 more in
-    let all = l.invariant.2 ∙ ap (value_lines_in marks a.n l.line l.work) rest in
-    let p = slice l.at e.result.end s in
-    let ps = cut 10 (drop (e.result.end + 1) s) in
-    (values_fault a.n l.line l.work p ps r.result r.new.work r.ensures c.in-Fault.c c.in-Fault.is ∙ sym all, tt)
+pub returns-then-not-line : goal.returns-then-not-line
+returns-then-not-line c =
+    let l = c.loop-progress.invariant in
+    let e = c.next_line-line.ensures in
+    let r = c.read_value_line in
+    let line = values_last _ _ _ _ _ _ e.lines e.line _ _ l.long _ _ r.ensures c.if-not-line.true c.in-Ok.progress c.in-Ok.is in
+    rw (c.at-then-not-line.ensures, e.number) (line ∙ sym l.left)
 
-pub returns-in-Closed : goal.returns-in-Closed
-returns-in-Closed c =
-    let a = c.args in
-    let s = a.s.now in
-    let l = c.loop-work in
-    let e = c.line_in-here in
-    let more = c.if-end-s.false in
-    let r = c.read_value_line-r in
-    let rest = rest_piece 10 s l.at e.result.end l.invariant.0 e.ensures.0 more in
-    let all = l.invariant.2 ∙ ap (value_lines_in marks a.n l.line l.work) rest in
-    let p = slice l.at e.result.end s in
-    let ps = cut 10 (drop (e.result.end + 1) s) in
-    let line = values_closed a.n l.line l.work p ps r.result r.new.work r.ensures c.in-Closed.is in
-    (line ∙ sym all, (omega (arith, more), omega arith))
+pub returns-in_default : goal.returns-in_default
+returns-in_default c =
+    let l = c.loop-progress.invariant in
+    let e = c.next_line-line.ensures in
+    let r = c.read_value_line in
+    let is_closed = c.in-Ok.is ∙ ap Ok c.in_default.is in
+    values_closed _ _ _ _ _ _ e.lines e.line _ _ l.long _ _ r.ensures c.if-not-line.false is_closed ∙ sym l.left
 
-pub loop-work-preserved : goal.loop-work-preserved
-loop-work-preserved c =
-    let a = c.args in
-    let s = a.s.now in
-    let l = c.loop-work in
-    let e = c.line_in-here in
-    let more = c.if-end-s.false in
-    let r = c.read_value_line-r in
-    let rest = rest_piece 10 s l.at e.result.end l.invariant.0 e.ensures.0 more in
-    let all = l.invariant.2 ∙ ap (value_lines_in marks a.n l.line l.work) rest in
-    let p = slice l.at e.result.end s in
-    let ps = cut 10 (drop (e.result.end + 1) s) in
-    let line = values_more a.n l.line l.work p ps r.result r.new.work r.ensures c.in-More.is in
-    (omega (arith, more), omega arith, all ∙ line, search rules)
+pub loop-progress-preserved : goal.loop-progress-preserved
+loop-progress-preserved c =
+    let l = c.loop-progress.invariant in
+    let e = c.next_line-line.ensures in
+    let r = c.read_value_line in
+    let is_more = c.in-Ok.is ∙ ap Ok c.in-More.is in
+    let line = values_more _ _ _ _ _ _ e.lines e.line _ _ l.long _ _ r.ensures c.if-not-line.false is_more in
+    record { same = e.same ∙ l.same; long = r.auto.work ∙ l.long; left = l.left ∙ line }

@@ -1,36 +1,39 @@
 -- The loop turns one mark more into a value; a mark that is missing ends it.
-use mathlib.Core.Path.{◌≡◌, refl, ◌∙◌}
-use Prim.Native.Nat.{◌+◌}
-use native.Mathlib.Omega.{arith}
+use Rattle.std.proofs.Common.{refl, ap, ◌∙◌, arith}
 use Rattle.lists.proofs.PlaceLaws.{first_zero}
 use Rattle.lists.proofs.WritingLaws.{front_none}
-use Rattle.reply.proofs.BufferLaws.{now_false, now_true, none_missing, one_missing}
+use Rattle.reply.proofs.BufferLaws.{now_false, now_true, none_missing, one_missing, gap_found}
 use Rattle.reply.specs.Answers.{cleaned}
 use Rattle.reply.proofs.settle.Goals as goal
 use Rattle.reply.proofs.settle.Goals.{then-work-i-ne1, else-work-i-ne1}
 
 pub loop-i-init : goal.loop-i-init
-loop-i-init c = (omega arith, front_none _ c.args.work.now, first_zero _, refl)
+loop-i-init c = record { turned = front_none _ c.args.work.now; some = first_zero _; long = refl }
 
-pub returns-then-work-i-eq0 : goal.returns-then-work-i-eq0
-returns-then-work-i-eq0 c =
+pub returns-then-work-i-eq0-clause-found : goal.returns-then-work-i-eq0-clause-found
+returns-then-work-i-eq0-clause-found c =
     let w = c.args.work.now in
     let l = c.loop-i in
-    (one_missing w l.work l.i (omega arith) l.invariant.1 c.args.n (omega arith) l.invariant.2 c.if-work-i-eq0.true, l.invariant.1)
+    let i = one_missing w l.work l.i (omega arith) l.invariant.turned _ c.loop-i-test.true l.invariant.some c.if-work-i-eq0.true in
+    gap_found w _ l.i c.loop-i-test.true i
+
+pub returns-then-work-i-eq0-clause-buffer : goal.returns-then-work-i-eq0-clause-buffer
+returns-then-work-i-eq0-clause-buffer c =
+    let w = c.args.work.now in
+    let l = c.loop-i in
+    let i = one_missing w l.work l.i (omega arith) l.invariant.turned _ c.loop-i-test.true l.invariant.some c.if-work-i-eq0.true in
+    l.invariant.turned ∙ ap (λ n. cleaned n w) i
 
 pub loop-i-preserved : goal.loop-i-preserved
 loop-i-preserved c =
     let w = c.args.work.now in
     let l = c.loop-i in
     let j = c.if-work-i-ne1 in
-    let on : j.work ≡ cleaned (l.i + 1) w =
-    elim j.branch [
-      | then-work-i-ne1 x ↦ now_false w l.work l.i (omega arith) l.invariant.1 x.if-work-i-ne1.true j.work x.work-is
-      | else-work-i-ne1 x ↦ now_true w l.work l.i (omega arith) l.invariant.1 x.if-work-i-ne1.false j.work x.work-is
-    ] in (
-      omega arith,
-      on,
-      none_missing w l.work l.i (omega arith) l.invariant.1 l.invariant.2 c.if-work-i-eq0.false,
-      j.auto.work
-          ∙ l.invariant.3,
-    )
+    record {
+      turned = elim j.branch [
+        | then-work-i-ne1 x ↦ now_false w l.work l.i (omega arith) l.invariant.turned x.if-work-i-ne1.true j.work x.work-is
+        | else-work-i-ne1 x ↦ now_true w l.work l.i (omega arith) l.invariant.turned x.if-work-i-ne1.false j.work x.work-is
+      ];
+      some = none_missing w l.work l.i (omega arith) l.invariant.turned l.invariant.some c.if-work-i-eq0.false;
+      long = j.auto.work ∙ l.invariant.long;
+    }

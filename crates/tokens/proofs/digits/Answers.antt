@@ -1,39 +1,44 @@
--- The loop keeps what is left: the digits from i on are the rest of those at the front, and behind v they write the number.
-use mathlib.Core.Path.{◌≡◌}
-use Prim.Native.Nat.{◌+◌, ◌-◌}
-use native.Mathlib.Omega.{arith}
-use Rattle.tokens.proofs.NumberLaws.{front_digit, front_below, front_above, front_none, scan_ends, scan_on, one_digit_more}
+-- A digit is passed, any other byte ends the digits, and so does the part.
+use Rattle.std.proofs.Common.{get_or, sym, ◌∙◌, arith}
+use Rattle.lists.proofs.TestLaws.{is_within}
+use Rattle.tokens.proofs.NumberLaws.{digit_test, front_digit, front_other, front_none, scan_ends, scan_on, one_digit_more}
 use Rattle.tokens.proofs.digits.Goals as goal
 
-pub returns-then-s-i-lt48 : goal.returns-then-s-i-lt48
-returns-then-s-i-lt48 c =
-    let a = c.args in
+pub returns-then-not-is_ascii_digit-clause-count : goal.returns-then-not-is_ascii_digit-clause-count
+returns-then-not-is_ascii_digit-clause-count c =
+    let p = c.args.part.now in
     let l = c.loop-i in
-    let e = front_below a.s.now l.i a.to (omega arith) (omega arith) (omega arith) in
-    let (end, value) = scan_ends a.s.now a.from a.to l.i l.v l.invariant.2 l.invariant.3 e in
-    (end, omega arith, omega arith, value)
+    let other = digit_test _ ∙ sym c.is_ascii_digit.ensures.value ∙ c.if-not-is_ascii_digit.true in
+    (scan_ends p l.i l.value l.invariant.left l.invariant.writes (front_other p l.i c.loop-i-test.true other)).0
 
-pub returns-then-s-i-gt57 : goal.returns-then-s-i-gt57
-returns-then-s-i-gt57 c =
-    let a = c.args in
+pub returns-then-not-is_ascii_digit-clause-value : goal.returns-then-not-is_ascii_digit-clause-value
+returns-then-not-is_ascii_digit-clause-value c =
+    let p = c.args.part.now in
     let l = c.loop-i in
-    let e = front_above a.s.now l.i a.to (omega arith) (omega arith) (omega arith) in
-    let (end, value) = scan_ends a.s.now a.from a.to l.i l.v l.invariant.2 l.invariant.3 e in
-    (end, omega arith, omega arith, value)
+    let other = digit_test _ ∙ sym c.is_ascii_digit.ensures.value ∙ c.if-not-is_ascii_digit.true in
+    (scan_ends p l.i l.value l.invariant.left l.invariant.writes (front_other p l.i c.loop-i-test.true other)).1
 
 pub loop-i-preserved : goal.loop-i-preserved
 loop-i-preserved c =
-    let a = c.args in
+    let p = c.args.part.now in
     let l = c.loop-i in
-    let e : l.i + 1 - a.from ≡ l.i - a.from + 1 = omega arith in
-    let digit = front_digit a.s.now l.i a.to (omega arith) (omega arith) (omega arith) (omega arith) in
-    let (left, writes) = scan_on a.s.now a.from a.to l.i l.v l.invariant.2 l.invariant.3 digit in
-    (omega arith, omega arith, left, writes, rw (e, one_digit_more (l.i - a.from)) (omega arith))
+    let is_digit = digit_test (get_or p l.i 0) ∙ sym c.is_ascii_digit.ensures.value ∙ c.if-not-is_ascii_digit.false in
+    let (left, writes) = scan_on p l.i l.value l.invariant.left l.invariant.writes (front_digit p l.i c.loop-i-test.true is_digit) in
+    record {
+      left = left;
+      writes = rw c.from.ensures writes;
+      small = rw (c.from.ensures, one_digit_more l.i) (omega (arith, is_within 48 57 (get_or p l.i 0) is_digit, l.invariant.small));
+    }
 
-pub returns : goal.returns
-returns c =
-    let a = c.args in
+pub returns-clause-count : goal.returns-clause-count
+returns-clause-count c =
+    let p = c.args.part.now in
     let l = c.loop-i in
-    let e = front_none a.s.now l.i a.to (omega arith) in
-    let (end, value) = scan_ends a.s.now a.from a.to l.i l.v l.invariant.2 l.invariant.3 e in
-    (end, omega arith, omega arith, value)
+    let none = front_none p l.i (omega arith) in
+    omega (arith, (scan_ends p l.i l.value l.invariant.left l.invariant.writes none).0)
+
+pub returns-clause-value : goal.returns-clause-value
+returns-clause-value c =
+    let p = c.args.part.now in
+    let l = c.loop-i in
+    (scan_ends p l.i l.value l.invariant.left l.invariant.writes (front_none p l.i (omega arith))).1

@@ -1,66 +1,44 @@
 -- The digits of at most eight bytes tell the token, and the space is looked for behind them.
-use mathlib.Core.Path.{◌≡◌, ◌∙◌}
-use Prim.Native.Nat.{◌-◌, ◌≤◌, ◌<◌}
-use native.Mathlib.Omega.{arith}
-use lib.ListN.{get_or}
-use Rattle.tokens.proofs.NumberLaws.{no_digit, too_long, leading_zero, a_number, word_ends}
+use Rattle.std.proofs.Common.{◌≡◌, sym, ◌∙◌, arith}
+use borrow.Author.Tests.{eqb-true, eqb-false, ltb-true}
+use Rattle.lists.specs.Rows.{num}
+use Rattle.tokens.proofs.NumberLaws.{a_number, no_number, word_ends}
 use Rattle.tokens.proofs.unsigned.Goals as goal
-use Rattle.tokens.proofs.unsigned.Goals.{then-s-from-eq48+else-e-from-gt1, else-s-from-eq48}
+use Rattle.tokens.proofs.unsigned.Goals.{then-count-eq0-via-then-count-eq0, then-count-eq0-via-else-count-eq0+then-count-gt7}
+use Rattle.tokens.proofs.unsigned.Goals.{then-count-eq0-via-else-count-eq0+else-count-gt7+then-rest-eq48, then-count-gt1, else-count-gt1}
 
-pub returns-then-e-from : goal.returns-then-e-from
-returns-then-e-from c =
-    let a = c.args in
-    let p = c.requires in
-    let eight = c.eight_bytes in
-    let d = c.digits-d in
-    let x = c.find-end in (
-      no_digit a.on a.s.now a.from a.to eight.result d.result.end d.result.value x.result p.0 p.1 eight.ensures.3 d.ensures.0 d.ensures.3
-          x.ensures c.if-e-from.true,
-      word_ends a.on a.s.now a.from a.to eight.result d.result.end d.result.value x.result p.0 p.1
-          eight.ensures.3 d.ensures.0 d.ensures.3 x.ensures,
-    )
+pub returns-then-count-eq0-clause-token : goal.returns-then-count-eq0-clause-token
+returns-then-count-eq0-clause-token c =
+    let d = c.digits-front.ensures in
+    let t = c.args.rest.now in
+    no_number c.args.plain t _ _ _ _ c.min.ensures d.count d.value c.length_of_tail.ensures.value (elim c.then-count-eq0.branch [
+      | then-count-eq0-via-then-count-eq0 w ↦ λ some few. absurd (omega arith)
+      | then-count-eq0-via-else-count-eq0+then-count-gt7 w ↦ λ some few. absurd (omega arith)
+      | then-count-eq0-via-else-count-eq0+else-count-gt7+then-rest-eq48 w ↦
+          λ some few. elim w.if-count-gt1.branch [
+            | then-count-gt1 v ↦ (eqb-true (num t 0) 48 (sym v.value-is ∙ w.if-rest-eq48.true), λ e. omega arith)
+            | else-count-gt1 v ↦ absurd (omega (arith, ltb-true 1 c.digits-front.result.count (sym v.value-is ∙ w.if-rest-eq48.true)))
+          ]
+    ])
 
-pub returns-then-e-from-gt7 : goal.returns-then-e-from-gt7
-returns-then-e-from-gt7 c =
-    let a = c.args in
-    let p = c.requires in
-    let eight = c.eight_bytes in
-    let d = c.digits-d in
-    let x = c.find-end in (
-      too_long a.on a.s.now a.from a.to eight.result d.result.end d.result.value x.result p.0 p.1 eight.ensures.3 d.ensures.0 d.ensures.3
-          x.ensures (omega arith),
-      word_ends a.on a.s.now a.from a.to eight.result d.result.end d.result.value x.result p.0 p.1
-          eight.ensures.3 d.ensures.0 d.ensures.3 x.ensures,
-    )
+pub returns-then-count-eq0-clause-length : goal.returns-then-count-eq0-clause-length
+returns-then-count-eq0-clause-length c =
+    let d = c.digits-front.ensures in
+    word_ends c.args.plain c.args.rest.now _ _ _ _ c.min.ensures d.count d.value c.length_of_tail.ensures.value
 
-pub returns-then-e-from-gt1 : goal.returns-then-e-from-gt1
-returns-then-e-from-gt1 c =
-    let a = c.args in
-    let p = c.requires in
-    let eight = c.eight_bytes in
-    let d = c.digits-d in
-    let x = c.find-end in (
-      leading_zero a.on a.s.now a.from a.to eight.result d.result.end d.result.value x.result p.0 p.1 eight.ensures.3 d.ensures.0
-          d.ensures.3 x.ensures c.if-s-from-eq48.true c.if-e-from-gt1.true,
-      word_ends a.on a.s.now a.from a.to eight.result d.result.end
-          d.result.value x.result p.0 p.1 eight.ensures.3 d.ensures.0 d.ensures.3 x.ensures,
-    )
+pub returns-clause-token : goal.returns-clause-token
+returns-clause-token c =
+    let d = c.digits-front.ensures in
+    let t = c.args.rest.now in
+    let zero : num t 0 ≡ 48 → c.digits-front.result.count ≡ 1 =
+    elim c.if-count-gt1.branch [
+      | then-count-gt1 w ↦ λ z. absurd (eqb-false (num t 0) 48 (sym w.value-is ∙ c.if-rest-eq48.false) z)
+      | else-count-gt1 w ↦ λ z. omega arith
+    ] in
+    c.numbered.ensures
+    ∙ a_number c.args.plain t _ _ _ _ c.min.ensures d.count d.value c.length_of_tail.ensures.value (omega arith) (omega arith) zero
 
-pub returns : goal.returns
-returns c =
-    let a = c.args in
-    let p = c.requires in
-    let eight = c.eight_bytes in
-    let d = c.digits-d in
-    let x = c.find-end in
-    let some : a.from < d.result.end = omega arith in
-    let zero : get_or a.s.now a.from 0 ≡ 48 → d.result.end - a.from ≤ 1 =
-    elim c.if-s-from-eq48.branch [
-      | then-s-from-eq48+else-e-from-gt1 w ↦ λ z. omega arith
-      | else-s-from-eq48 w ↦ λ z. absurd (w.if-s-from-eq48.false z)
-    ] in (
-      c.numbered.ensures ∙ a_number a.on a.s.now a.from a.to eight.result d.result.end d.result.value x.result p.0 p.1 eight.ensures.3
-          d.ensures.0 d.ensures.3 x.ensures some (omega arith) zero,
-      word_ends a.on a.s.now a.from a.to eight.result d.result.end
-          d.result.value x.result p.0 p.1 eight.ensures.3 d.ensures.0 d.ensures.3 x.ensures,
-    )
+pub returns-clause-length : goal.returns-clause-length
+returns-clause-length c =
+    let d = c.digits-front.ensures in
+    word_ends c.args.plain c.args.rest.now _ _ _ _ c.min.ensures d.count d.value c.length_of_tail.ensures.value

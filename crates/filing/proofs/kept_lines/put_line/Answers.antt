@@ -1,14 +1,13 @@
 -- The line and its LF, one behind the other, or nothing.
-use mathlib.Core.Path.{◌∙◌, sym}
-use native.Mathlib.Omega.{arith}
-use Rattle.put.proofs.PutLaws.{put_fits, put_none, put_then, put_own}
+use Rattle.std.proofs.Common.{◌∙◌, sym, arith}
+use Rattle.put.proofs.PutLaws.{put_fits, put_none, put_then, put_own, put_length}
 use Rattle.filing.proofs.KeptLineLaws.{kept_comment, kept_line, kept_long}
 use Rattle.filing.proofs.kept_lines.put_line.Goals as goal
 
 pub returns-then-follows : goal.returns-then-follows
 returns-then-follows c =
     let a = c.args in
-    rw (kept_comment a.line.now (sym c.follows.ensures ∙ c.if-follows.true)) (put_none a.out.now a.at)
+    rw (kept_comment a.line.now (sym c.follows.ensures ∙ c.if-follows.true)) (put_none a.page.now)
 
 pub returns : goal.returns
 returns c =
@@ -16,6 +15,7 @@ returns c =
     let t = sym c.follows.ensures ∙ c.if-follows.false in
     let n = kept_long l t in
     let room = c.requires in
-    let a = put_fits c.put_part-end.ensures (omega (arith, room)) in
-    let p = put_then a (put_fits c.put_byte.ensures (omega (arith, room))) (omega (arith, room)) in
-    rw (kept_line l t) (put_own p)
+    let line = put_fits c.part.ensures (omega (arith, room)) in
+    let same = put_length line (omega (arith, room)) in
+    let both = put_then line (put_fits c.byte.ensures (omega (arith, room, line.end, same))) (omega (arith, room)) in
+    rw (kept_line l t) (put_own both)

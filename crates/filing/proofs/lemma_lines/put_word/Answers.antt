@@ -1,5 +1,5 @@
 -- The gap, the sign and the name, one behind the other.
-use native.Mathlib.Omega.{arith}
+use Rattle.std.proofs.Common.{arith}
 use Rattle.put.proofs.PutLaws.{put_then}
 use Rattle.filing.proofs.lemma_lines.put_word.Goals as goal
 
@@ -7,4 +7,4 @@ pub returns : goal.returns
 returns c =
     let room = c.requires in
     let name = rw c.item.ensures at c.put_item.ensures in
-    put_then (put_then c.put_gap-a.ensures c.put_sign-b.ensures (omega (arith, room))) name (omega (arith, room))
+    put_then (put_then c.put_gap.ensures c.put_sign.ensures (omega (arith, room))) name (omega (arith, room))

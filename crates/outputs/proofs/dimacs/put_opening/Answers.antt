@@ -1,44 +1,37 @@
--- The reader's refusal is printed alone; an accepted text is short and its table fit.
-use mathlib.Core.Path.{ap, ◌∙◌}
-use mathlib.Core.List.{◌++◌}
-use Prim.Native.Nat.{ℕ}
-use lib.ListN.{length}
-use Rattle.job.specs.Numbering.{total}
+-- The reader's refusal is passed on; an accepted text is short and its table fit.
+use Rattle.std.proofs.Common.{refl, sym, ap, ◌∙◌, ◌++◌, length, true≢false}
+use Rattle.totals.specs.declared.Header.{Header}
+use Rattle.job.specs.declared.Job.{Job}
+use Rattle.job.specs.Clauses.{clauses}
 use Rattle.text.specs.Comments.{comments}
 use Rattle.text.specs.Lines.{header}
+use Rattle.reply.proofs.LineLaws.{passed_on}
+use Rattle.outputs.specs.Dimacs.{before}
 use Rattle.outputs.proofs.PrintingLaws.{put_as}
-use Rattle.outputs.proofs.ReadLaws.{read_fits, read_short, opened_before, following_clauses, opened_refused, none_following}
+use Rattle.outputs.proofs.ReadLaws.{read_fits, read_short, opened_before, opened_refused, following_job, following_none}
 use Rattle.outputs.proofs.dimacs.put_opening.Goals as goal
 
-pub header_of-header-requires : goal.header_of-header-requires
-header_of-header-requires c =
-    read_fits c.args.text.now _ c.read-read.ensures c.in-Accepted.is
+pub returns-in_err-job : goal.returns-in_err-job
+returns-in_err-job c =
+    let text = c.args.text.now in
+    let e = sym c.in_err-job.ensures.reading in
+    rw (passed_on _ _ c.from_residual.ensures) ((opened_refused text _ e, refl), following_none text _ e)
+
+pub returns-in_err-fit : goal.returns-in_err-fit
+returns-in_err-fit c =
+    let fits = read_fits c.args.text.now _ (sym c.in_ok-job.ensures.reading) in
+    absurd (true≢false (sym fits ∙ c.in_err-fit.ensures.0))
 
 pub put_before-length-requires : goal.put_before-length-requires
-put_before-length-requires c =
-    (read_short c.args.text.now _ c.read-read.ensures c.in-Accepted.is, c.requires)
+put_before-length-requires c = (read_short c.args.text.now _ (sym c.in_ok-job.ensures.reading), c.requires)
 
-pub returns-in-Accepted : goal.returns-in-Accepted
-returns-in-Accepted c =
-    let a = c.args in
-    let put = c.put_before-length.ensures in
-    let totals = c.header_of-header.ensures in
-    let accepted = c.in-Accepted.is in
-    let text = a.text.now in
-    let J = c.read-read.result.job in
-    let read = c.read-read.ensures in
-    let e = ap (λ (v : ℕ). comments text ++ header v c.header_of-header.result.clauses) totals.0
-    ∙ ap (λ (k : ℕ). comments text ++ header (total J.program) k) totals.1
-    ∙ opened_before text _ read accepted in
-    let (size, holds) = put_as a.out.now put e in
-    (size, holds, read.1, totals.1 ∙ ap length (following_clauses text _ read accepted))
-
-pub returns-in-Refused : goal.returns-in-Refused
-returns-in-Refused c =
-    let a = c.args in
-    let put = c.put_refusal-length.ensures in
-    let text = a.text.now in
-    let read = c.read-read.ensures in
-    let refused = c.in-Refused.is in
-    let (size, holds) = put_as a.out.now put (opened_refused text _ read _ refused) in
-    (size, holds, read.1, ap length (none_following text _ read _ refused))
+pub returns : goal.returns
+returns c =
+    let text = c.args.text.now in
+    let e = sym c.in_ok-job.ensures.reading in
+    let same = c.in_ok-fit.ensures in
+    let is = c.header_of-header.ensures in
+    let opened = ap (λ (h : Header). comments text ++ header h.variables h.clauses) is ∙ ap (before text) same
+    ∙ opened_before text _ e in
+    let counted = ap (λ (h : Header). h.clauses) is ∙ ap (λ (J : Job). length (clauses J)) same in
+    (put_as c.args.out.now c.put_before-length.ensures opened, following_job text _ e _ same counted)

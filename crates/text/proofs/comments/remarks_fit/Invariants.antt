@@ -7,7 +7,7 @@ use Rattle.text.proofs.CommentLaws.{left as rest}
 use Rattle.text.proofs.comments.remarks_fit.Given as goal
 
 abbrev pub invariant-loop-at : goal.invariant-loop-at
-invariant-loop-at l = leb (length (rest l.text l.at)) l.left ≡ leb (length (rest l.text l.from)) l.room
+invariant-loop-at l = leb (length (rest l.text l.at)) l.left ≡ leb (length (rest l.text 0)) l.room
 
 abbrev pub decreases-loop-at : goal.decreases-loop-at
 decreases-loop-at l = length l.text - l.at

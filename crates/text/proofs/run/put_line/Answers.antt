@@ -1,14 +1,13 @@
 -- Time and steps, bits, turn and the line feed, one behind the other.
-use native.Mathlib.Omega.{arith}
-use Rattle.put.proofs.PutLaws.{put_fits, put_then}
+use Rattle.std.proofs.Common.{arith}
+use Rattle.put.proofs.PutLaws.{put_fits, put_then, put_room}
 use Rattle.text.specs.RunText.{line_text}
 use Rattle.text.proofs.run.put_line.Goals as goal
 
 pub returns : goal.returns
 unfolding line_text
 returns c =
-    let room = c.requires.0 in
-    let turn = rw c.group_byte.ensures at c.put_turn-c.ensures in
-    let a = put_then c.put_steps-a.ensures c.put_bits-b.ensures (omega (arith, room)) in
-    let end = put_fits c.put_byte.ensures (omega arith) in
-    put_then (put_then a turn (omega (arith, room))) end (omega (arith, room))
+    let room = c.requires.room in
+    let turn = rw c.get_or.ensures at c.put_turn.ensures in
+    let text = put_then (put_then c.put_steps.ensures c.put_bits.ensures (omega (arith, room))) turn (omega (arith, room)) in
+    put_then text (put_fits c.byte.ensures (put_room 1 text room)) room

@@ -1,46 +1,44 @@
--- The lines before time count stand in the buffer; the next one goes behind them, or does not fit.
-use Prim.Native.Nat.{ℕ, suc}
-use mathlib.Core.Path.{◌≡◌, ◌∙◌, ap}
-use mathlib.Core.List.{List}
-use native.Mathlib.Omega.{arith}
-use lib.ListN.{length}
-use Rattle.lists.specs.Writing.{write}
-use Rattle.put.proofs.PutLaws.{put_fits, put_front, front_length, put_length}
-use Rattle.text.specs.RunText.{line_text, group_of}
-use Rattle.text.proofs.TextsLaws.{begun_none, begun_length, begun_next, begun_full, begun_all}
-use borrow.Author.Rules.{rules}
+-- The lines before time t stand in the buffer; the next one goes behind them, or does not fit.
+use Rattle.std.proofs.Common.{◌≡◌, ◌+◌, ◌*◌, arith, rules}
+use Rattle.put.specs.Put.{Puts}
+use Rattle.put.proofs.PutLaws.{kept}
+use Rattle.text.specs.RunText.{run_line}
+use Rattle.text.proofs.GroupLaws.{line_of_rest}
+use Rattle.text.proofs.TextsLaws.{begun_none, begun_part, begun_full, begun_all}
 use Rattle.text.proofs.run.put_lines.Goals as goal
+use Rattle.text.proofs.run.put_lines.Goals.{After-put_line}
 
-abbrev lines_of : List ℕ → List ℕ → List ℕ → ℕ → ℕ → List ℕ
-lines_of labels names run n t = line_text labels names n (group_of n run t) t
+made : (c : After-put_line)
+    → Puts (30 + c.args.j.now.program.variables * 26 + 2 + 1) c.new-one.result c.put_line.new.page
+    (run_line c.args.j.now c.args.run.now c.loop-t.t)
+made c = rw (c.rest.ensures, line_of_rest c.args.j.now c.args.run.now c.loop-t.t) at c.put_line.ensures
 
-pub loop-count-init : goal.loop-count-init
-loop-count-init c = let a = c.args in
-    (omega arith, begun_none (lines_of a.labels.now a.names.now a.run.now a.n) a.out.now, search rules, search rules)
+pub loop-t-init : goal.loop-t-init
+loop-t-init c = begun_none (run_line c.args.j.now c.args.run.now) c.new-page.result c.new-page.ensures.end
 
-pub returns-then-out-bytes : goal.returns-then-out-bytes
-returns-then-out-bytes c = let a = c.args in
-    let o = c.loop-count in
-    let b = o.invariant.1 in
-    begun_full (lines_of a.labels.now a.names.now a.run.now a.n) a.out.now (suc a.r) o.count o.bytes o.out b
-    (omega arith) (omega (arith, c.put_line-end.ensures.behind, b.room))
+pub returns-then-page-end : goal.returns-then-page-end
+returns-then-page-end c =
+    let a = c.args in
+    let o = c.loop-t in
+    let line = made (goal.at.returns-then-page-end c).After-put_line in
+    let r = begun_full (run_line a.j.now a.run.now) c.new-page.result c.new-page.ensures.end o.t o.invariant (a.j.now.program.bound + 1)
+    c.loop-t-test.true (omega (arith, line.end, c.new-one.ensures.end)) in
+    let (counted, written) = rw c.new-page.ensures.out at r in
+    (counted, kept written (search (rules, o.invariant.put.same_reference, c.new-page.ensures.same_reference)))
 
-pub loop-count-preserved : goal.loop-count-preserved
-loop-count-preserved c =
-    let start = c.before.before.before.before.before in
-    let a = start.args in
-    let o = c.loop-count in
-    let b = o.invariant.1 in
-    let p = c.put_line-end.ensures in
-    let lines = lines_of a.labels.now a.names.now a.run.now a.n in
-    let n : c.put_line-end.result ≡ length (lines o.count) = omega (arith, p.behind) in
-    let q = put_fits c.put_part.ensures (omega (arith, b.room, front_length p)) in
-    let e = q.holds ∙ ap (write o.out o.bytes) (put_front p) in
-    let next = begun_next lines a.out.now o.count o.bytes o.out _ b (omega (arith, b.room)) e in
-    (omega arith, rw n next, begun_length lines a.out.now next, put_length p (omega (arith, o.invariant.3, start.requires)) ∙ o.invariant.3)
+pub loop-t-preserved : goal.loop-t-preserved
+loop-t-preserved c =
+    let a = c.args in
+    let o = c.loop-t in
+    let line = made (goal.at.loop-t-preserved c).After-put_line in
+    begun_part (run_line a.j.now a.run.now) c.new-page.result c.new-page.ensures.end o.t o.invariant line c.new-one.ensures.end
+    c.if-page-end.false c.part.ensures (search (rules, line.same_reference, c.new-one.ensures.same_reference))
 
 pub returns : goal.returns
-returns c = let a = c.args in
-    let o = c.loop-count in
-    begun_all (lines_of a.labels.now a.names.now a.run.now a.n) a.out.now (suc a.r) o.count o.bytes o.out
-    o.invariant.1 (omega arith)
+returns c =
+    let a = c.args in
+    let o = c.loop-t in
+    let e : o.t ≡ a.j.now.program.bound + 1 = omega arith in
+    let r = begun_all (run_line a.j.now a.run.now) c.new-page.result c.new-page.ensures.end o.t o.invariant _ e in
+    let (counted, written) = rw (e, c.new-page.ensures.out) at r in
+    (counted, kept written (search (rules, o.invariant.put.same_reference, c.new-page.ensures.same_reference)))

@@ -1,22 +1,20 @@
 -- One word or none, by the byte.
-use native.Mathlib.Omega.{arith}
-use borrow.Author.Tests.{eq-eqb, ne_eqb}
+use Rattle.std.proofs.Common.{arith}
+use borrow.Author.Tests.{ne_eqb}
 use Rattle.put.proofs.PutLaws.{put_fits, put_none, put_most}
 use Rattle.text.specs.RunText.{turn_text}
 use Rattle.text.proofs.run.put_turn.Goals as goal
 
-pub returns-then-b-eq1 : goal.returns-then-b-eq1
+pub returns-in-1 : goal.returns-in-1
 unfolding turn_text
-returns-then-b-eq1 c = rw (eq-eqb c.args.b 1 c.if-b-eq1.true) (put_fits c.put_part.ensures (omega arith))
+returns-in-1 c = rw c.in-1.is (put_fits c.part.ensures c.requires)
 
-pub returns-then-b-eq2 : goal.returns-then-b-eq2
+pub returns-in-2 : goal.returns-in-2
 unfolding turn_text
-returns-then-b-eq2 c =
-    let start = c.before.before in
-    rw (ne_eqb start.args.b 1 c.if-b-eq1.false, eq-eqb start.args.b 2 c.if-b-eq2.true)
-    (put_fits c.put_part-then-b-eq2.ensures (omega arith))
+returns-in-2 c = rw c.in-2.is (put_fits c.part-in-2.ensures c.requires)
 
-pub returns : goal.returns
+pub returns-in_default : goal.returns-in_default
 unfolding turn_text
-returns c =
-    rw (ne_eqb c.args.b 1 c.if-b-eq1.false, ne_eqb c.args.b 2 c.if-b-eq2.false) (put_most (put_none c.args.out.now c.args.at) (omega arith))
+returns-in_default c =
+    let b = c.args.b in
+    rw (ne_eqb b 1 (omega arith), ne_eqb b 2 (omega arith)) (put_most (put_none c.args.page.now) (omega arith))

@@ -1,0 +1,2 @@
+-- A field that is lent the cursor.
+pub mod Lent
