@@ -2,6 +2,7 @@
 ghost use Rattle.std.specs.Prelude.{◌≤◌};
 ghost use Rattle.job.specs.Limits.{max_steps};
 
+use job::Process::{A, B};
 use job::{Job, Kind, Program, Word};
 
 // A few numbers, and zeros behind them.
@@ -45,7 +46,7 @@ pub(crate) fn one_bit(with_lemma: bool) -> Job {
         word: Word::Free as u8,
         steps: 2,
         variables: 1,
-        process: row([1, 2]),
+        process: row([A as u8, B as u8]),
         kind: row([Kind::Assign as u8, Kind::Maybe as u8]),
         to: row([1, 2]),
         other: [0; Job::STEPS],
@@ -67,7 +68,7 @@ pub(crate) fn four_steps(word: u8) -> Job {
         word,
         steps: 4,
         variables: 2,
-        process: row([1, 1, 2, 2]),
+        process: row([A as u8, A as u8, B as u8, B as u8]),
         kind: row([
             Kind::Critical as u8,
             Kind::If as u8,
@@ -93,8 +94,8 @@ fn numbers() -> [u8; Job::STEPS] {
 
 // 99 steps of A and one of B, each of which assigns a variable of its own; bound 99; 100 lemmas of 64 names.
 pub(crate) fn largest() -> Job {
-    let mut process = [1; Job::STEPS];
-    process[Job::STEPS - 1] = 2;
+    let mut process = [A as u8; Job::STEPS];
+    process[Job::STEPS - 1] = B as u8;
     let mut to = [1; Job::STEPS];
     to[Job::STEPS - 1] = Job::STEPS as u16;
     let program = Program {

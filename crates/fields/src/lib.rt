@@ -21,8 +21,8 @@ pub struct Cursor {
     pub column: usize,
 }
 
-// Bytes in a line before its LF.
 impl Cursor {
+    // Bytes in a line before its LF.
     pub const COLUMNS: usize = 1022;
 }
 

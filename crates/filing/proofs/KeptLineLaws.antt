@@ -1,62 +1,46 @@
--- Laws of the lines up to `lemmas`: one line, and those that are left from a place of the text on.
-use mathlib.Core.Path.{◌≡◌, ap, ◌∙◌}
-use mathlib.Core.Bool.{true, false, cond}
+-- Laws of the lines before `lemmas`: one line, and those behind it.
+use Rattle.std.proofs.Common.{◌≡◌, ap, ◌∙◌, true, false, cond, List, [], ◌∷◌, ◌++◌, ℕ, ◌+◌, length}
+use Rattle.std.proofs.lemmas.List.{length-append, append_assoc}
 use mathlib.Core.Logic.{◌⊎◌, inl, inr}
-use mathlib.Core.List.{List, [], ◌∷◌, ◌++◌, append_assoc}
-use Prim.Native.Nat.{ℕ, ◌+◌, ◌-◌, ◌≤◌, ◌<◌}
-use native.Mathlib.Omega.{arith}
-use lib.ListN.{length, take, drop, length-append, length-drop}
-use Rattle.lists.specs.Pieces.{starts}
 use Rattle.lists.proofs.Logic.{split}
-use Rattle.lists.proofs.PieceLaws.{length_up_to}
-use Rattle.scan.specs.Bytes.{word_at}
-use Rattle.scan.specs.Lines.{lines}
-use Rattle.scan.proofs.LineLaws.{lines_at, lines_out}
+use Rattle.scan.specs.Lines.{Row}
 use Rattle.program.specs.ProgramLine.{is_lemmas, is_comment}
 use Rattle.form.specs.Form.{kept, ended}
-use Rattle.filing.specs.KeptText.{kept_text}
+use Rattle.filing.specs.Lines.{kept_text}
 
 -- ---- one line
 
 module _ (line : List ℕ) where
-  pub kept_comment : starts (126 ∷ []) line ≡ true → kept_text line ≡ []
-  unfolding kept_text is_comment
+  pub kept_comment : is_comment line ≡ true → kept_text line ≡ []
+  unfolding kept_text
   kept_comment h = rw h
 
-  pub kept_line : starts (126 ∷ []) line ≡ false → kept_text line ≡ line ++ (10 ∷ [])
-  unfolding kept_text is_comment
+  pub kept_line : is_comment line ≡ false → kept_text line ≡ line ++ (10 ∷ [])
+  unfolding kept_text
   kept_line h = rw h
 
-  pub kept_long : starts (126 ∷ []) line ≡ false → length (kept_text line) ≡ length line + 1
+  pub kept_long : is_comment line ≡ false → length (kept_text line) ≡ length line + 1
   kept_long h = ap length (kept_line h) ∙ length-append line (10 ∷ [])
 
--- ---- the lines from place at on
+-- ---- a line, and those behind it
 
-module _ (text : List ℕ) where
-  abbrev pub left : ℕ → List ℕ
-  left at = ended (kept (lines (drop at text)))
+abbrev pub left : List Row → List ℕ
+left ls = ended (kept ls)
 
-  pub left_none : (at : ℕ) → length text ≤ at → left at ≡ []
+pub left_none : left [] ≡ []
+unfolding kept ended
+left_none = λ i. []
+
+module _ (l : Row) (ls : List Row) where
+  pub left_lemmas : is_lemmas l.bytes ≡ true → left (l ∷ ls) ≡ []
   unfolding kept ended
-  left_none at h = ap (λ ls. ended (kept ls)) (lines_out text at h)
+  left_lemmas h = rw h
 
-  module _ (at e : ℕ) (h : at < length text) (k : e ≡ at + length (word_at 10 text at)) where
-    abbrev line : List ℕ
-    line = take (e - at) (drop at text)
-
-    pub line_ends : (at ≤ e) × (e ≤ length text)
-    line_ends = (omega arith, omega (arith, length_up_to 10 (drop at text), length-drop at text))
-
-    pub left_lemmas : is_lemmas line ≡ true → left at ≡ []
-    unfolding kept ended
-    left_lemmas l = ap (λ ls. ended (kept ls)) (lines_at text at e h k) ∙ rw l
-
-    pub left_next : is_lemmas line ≡ false → left at ≡ kept_text line ++ left (e + 1)
-    unfolding kept ended kept_text
-    left_next l = ap (λ ls. ended (kept ls)) (lines_at text at e h k) ∙ rw l (go (split (is_comment line)))
-      where
-        go : (is_comment line ≡ true) ⊎ (is_comment line ≡ false)
-            → ended (cond (is_comment line) (kept (lines (drop (e + 1) text))) (line ∷ kept (lines (drop (e + 1) text))))
-            ≡ cond (is_comment line) [] (line ++ (10 ∷ [])) ++ left (e + 1)
-        go (inl c) = rw c
-        go (inr c) = rw c (simp append_assoc)
+  pub left_next : is_lemmas l.bytes ≡ false → left (l ∷ ls) ≡ kept_text l.bytes ++ left ls
+  unfolding kept ended kept_text
+  left_next h = rw h (go (split (is_comment l.bytes)))
+    where
+      go : (is_comment l.bytes ≡ true) ⊎ (is_comment l.bytes ≡ false)
+          → ended (cond (is_comment l.bytes) (kept ls) (l.bytes ∷ kept ls)) ≡ cond (is_comment l.bytes) [] (l.bytes ++ (10 ∷ [])) ++ left ls
+      go (inl c) = rw c
+      go (inr c) = rw c (simp append_assoc)

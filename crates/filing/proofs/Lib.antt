@@ -1,10 +1,7 @@
--- The laws behind the code of filing: a lemma's keys, rows of keys and their order, the lines, the form's parts, and the answer.
-pub mod ItemLaws
-pub mod KeyLaws
-pub mod SelectionLaws
-pub mod RowLaws
-pub mod InsertionLaws
-pub mod FiledRowLaws
+-- The laws behind the code of filing.
+pub mod SortedLaws
+pub mod OrderLaws
+pub mod FiledLaws
 pub mod LineLaws
 pub mod KeptLineLaws
 pub mod PartLaws

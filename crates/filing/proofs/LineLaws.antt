@@ -1,85 +1,95 @@
--- Laws of a lemma's line: its parts, and its names one behind the other.
-use mathlib.Core.Path.{◌≡◌, refl, ap}
-use mathlib.Core.List.{List, [], ◌∷◌, ◌++◌}
-use Prim.Native.Nat.{ℕ, zero, suc, ◌+◌, ◌%◌, ◌-◌, ◌≤◌, ◌<◌}
-use native.Mathlib.Omega.{arith}
-use borrow.Author.Tests.{eq-eqb, ne_eqb, lt-ltb, le-ltb}
-use lib.Dec.{ltb}
-use lib.ListN.{length}
-use Rattle.lists.specs.Rows.{each, num}
-use Rattle.put.specs.Names.{name_at}
+-- Laws of a lemma's line: what is left of it from one of its names on, and of the lines from one of the lemmas on.
+use Rattle.std.proofs.Common.{◌≡◌, refl, sym, ap, ◌∙◌, List, [], ◌∷◌, ◌++◌, map, ℕ, zero, suc, ◌+◌, ◌≤◌, ◌<◌}
+use Rattle.std.proofs.Common.{length, drop, arith}
+use Rattle.std.proofs.Math.ListN.{get_or}
+use Rattle.std.proofs.Math.Numerals.{add-one}
+use Rattle.std.proofs.lemmas.List.{drop_more, drop_all, get_or-map, length-map, append-nil, append_assoc}
 use Rattle.put.specs.declared.Page.{Page}
-use Rattle.put.specs.Put.{Puts}
-use Rattle.put.proofs.PutLaws.{put_none, put_most}
-use Rattle.order.specs.Sorting.{from_left}
-use Rattle.filing.specs.Selection.{nearest}
-use Rattle.filing.proofs.SelectionLaws.{after, after_next, after_none, empty}
-use Rattle.filing.proofs.RowLaws.{row_order, none_before}
-use Rattle.filing.specs.Keys.{sign_text, item_text, gap_text, word_text, line_text, lines_text}
+use Rattle.put.specs.Put.{Adds}
+use Rattle.put.proofs.PutLaws.{put_none, put_fits}
+use Rattle.job.specs.declared.Job.{Job}
+use Rattle.form.specs.Form.{spelt, spaced, lemma_text, ended}
+use Rattle.filing.specs.declared.names.Name.{Name}
+use Rattle.filing.specs.Names.{literal, clause}
+use Rattle.filing.specs.Rows.{Row, clauses}
+use Rattle.filing.specs.Lines.{HasRoomFor, PutsAll, gap_text, lemma_line, lemma_lines}
 
--- ---- the parts of a name
+-- ---- what stands before a name
 
-pub gap_none : (page : Page) (i : ℕ) → i ≡ 0 → Puts 1 page page (gap_text i)
+pub gap_none : (page : Page) (i : ℕ) → i ≡ 0 → PutsAll page page (gap_text i)
 unfolding gap_text
-gap_none page i e = rw e (put_most (put_none page) (omega arith))
+gap_none page i e = rw e (put_none page)
 
-pub gap_space : {old new : Page} (i : ℕ) → (i ≡ 0 → ⊥) → Puts 1 old new (32 ∷ []) → Puts 1 old new (gap_text i)
+pub gap_space : {old new : Page} (i : ℕ) → (i ≡ 0 → ⊥) → Adds old new (32 ∷ []) → HasRoomFor old (gap_text i) → PutsAll old new (gap_text i)
 unfolding gap_text
-gap_space zero e p = absurd (e refl)
-gap_space (suc i) e p = p
+gap_space zero e p room = absurd (e refl)
+gap_space (suc i) e p room = put_fits p room
 
-pub sign_none : (page : Page) (k : ℕ) → k % 2 ≡ 0 → Puts 1 page page (sign_text k)
-unfolding sign_text
-sign_none page k e = rw (eq-eqb (k % 2) 0 e) (put_most (put_none page) (omega arith))
+-- ---- words, each behind a space
 
-pub sign_tilde : {old new : Page} (k : ℕ) → (k % 2 ≡ 0 → ⊥) → Puts 1 old new (126 ∷ []) → Puts 1 old new (sign_text k)
-unfolding sign_text
-sign_tilde k e p = rw (ne_eqb (k % 2) 0 e) p
+unfoldable pub behind : List (List ℕ) → List ℕ
+behind [] = []
+behind (w ∷ ws) = 32 ∷ (w ++ behind ws)
 
-module _ (labels names : List ℕ) (m x : ℕ) where
-  pub item_label : x < m → item_text labels names m x ≡ name_at labels x
-  unfolding item_text
-  item_label h = rw (lt-ltb x m h)
+spaced_first : (w : List ℕ) (ws : List (List ℕ)) → spaced (w ∷ ws) ≡ w ++ behind ws
+unfolding spaced behind
+spaced_first w [] = sym (append-nil w)
+spaced_first w (v ∷ vs) = ap (λ r. w ++ (32 ∷ r)) (spaced_first v vs)
 
-  pub item_name : m ≤ x → item_text labels names m x ≡ name_at names (x - m)
-  unfolding item_text
-  item_name h = rw (le-ltb x m h)
+unfoldable pub words_from : ℕ → List (List ℕ) → List ℕ
+words_from zero ws = spaced ws
+words_from (suc i) ws = behind (drop (suc i) ws)
 
--- ---- the names of a line and its LF
+words_next : (i : ℕ) (ws : List (List ℕ)) → i < length ws → words_from i ws ≡ gap_text i ++ (get_or ws i [] ++ words_from (i + 1) ws)
+unfolding words_from gap_text behind
+words_next zero [] h = absurd (omega arith)
+words_next zero (w ∷ ws) h = spaced_first w ws
+words_next (suc i) ws h =
+    let e = add-one (suc i) in
+    let next : drop (suc i) ws ≡ get_or ws (suc i) [] ∷ drop (suc i + 1) ws = drop_more ws (suc i) [] h in
+    rw e (ap behind (rw e at next))
 
-pub line_is : {old new : Page} {most : ℕ} (labels names : List ℕ) (m : ℕ) (ks : List ℕ) (n : ℕ) → length ks ≡ n
-    → Puts most old new (each n (λ i. word_text labels names m i (num ks i)) ++ (10 ∷ []))
-    → Puts most old new (line_text labels names m ks)
-unfolding line_text
-line_is labels names m ks n e p = rw e p
+words_none : (i : ℕ) (ws : List (List ℕ)) → length ws ≤ i → words_from i ws ≡ []
+unfolding words_from behind spaced
+words_none zero [] h = refl
+words_none zero (w ∷ ws) h = absurd (omega arith)
+words_none (suc i) ws h = ap behind (drop_all (suc i) ws h)
 
--- ---- the lines of the rows past one, in order
+-- ---- a line from name i on, its LF with it
 
-module _ (labels names : List ℕ) (m : ℕ) (rows : List (List ℕ)) where
-  abbrev past : List ℕ → List (List ℕ)
-  past a = after (from_left ltb) rows a
+module _ (J : Job) (names : List Name) where
+  abbrev pub line_from : ℕ → List ℕ
+  line_from i = words_from i (map (spelt J) (clause names)) ++ (10 ∷ [])
 
-  abbrev pub lines_past : List ℕ → List ℕ
-  lines_past a = lines_text labels names m (past a)
+  pub line_next : (i : ℕ) (d : Name) → i < length names
+      → line_from i ≡ gap_text i ++ (spelt J (literal (get_or names i d)) ++ line_from (i + 1))
+  line_next i d h =
+      let words = map (spelt J) (clause names) in
+      let w = spelt J (literal (get_or names i d)) in
+      let word : get_or words i [] ≡ w =
+      get_or-map (spelt J) (clause names) i (literal d) [] (omega (arith, length-map names literal))
+      ∙ ap (spelt J) (get_or-map literal names i d (literal d) h) in
+      let within : i < length words = omega (arith, length-map (clause names) (spelt J), length-map names literal) in
+      ap (λ l. l ++ (10 ∷ [])) (words_next i words within ∙ ap (λ v. gap_text i ++ (v ++ words_from (i + 1) words)) word)
+      ∙ append_assoc (gap_text i) (w ++ words_from (i + 1) words) (10 ∷ [])
+      ∙ ap (λ l. gap_text i ++ l) (append_assoc w (words_from (i + 1) words) (10 ∷ []))
 
-  no_lines : (last : List ℕ) → past last ≡ [] → lines_past last ≡ []
-  unfolding lines_text
-  no_lines last e = ap (lines_text labels names m) e
+  pub line_ends : (i : ℕ) → length names ≤ i → line_from i ≡ (10 ∷ [])
+  line_ends i h = ap (λ l. l ++ (10 ∷ [])) (words_none i (map (spelt J) (clause names))
+      (omega (arith, length-map (clause names) (spelt J), length-map names literal)))
 
-  pub past_done : (last : List ℕ) → length (past last) ≤ 0 → lines_past last ≡ []
-  past_done last h = no_lines last (empty (past last) h)
+-- ---- the lines from lemma k on
 
-  module _ (last ks : List ℕ) (e : ks ≡ nearest (from_left ltb) last [] rows) where
-    pub past_none : ks ≡ [] → lines_past last ≡ []
-    past_none z = no_lines last (after_none (from_left ltb) row_order last rows [] ks e (none_before last) z)
+module _ (J : Job) (rows : List Row) where
+  abbrev pub lines_from : ℕ → List ℕ
+  lines_from k = lemma_lines J (clauses (drop k rows))
 
-    module _ (some : ks ≡ [] → ⊥) where
-      next : past last ≡ ks ∷ past ks
-      next = after_next (from_left ltb) row_order last rows [] ks e some
+  pub lines_next : (k : ℕ) (d : Row) → k < length rows
+      → lines_from k ≡ lemma_line J (clause (get_or rows k d).items) ++ lines_from (k + 1)
+  unfolding ended
+  lines_next k d h = ap (λ l. lemma_lines J (clauses l)) (drop_more rows k d h)
+      ∙ sym (append_assoc (lemma_text J (clause (get_or rows k d).items)) (10 ∷ []) (lines_from (k + 1)))
 
-      pub past_fewer : length (past last) ≡ length (past ks) + 1
-      past_fewer = omega (arith, ap length next)
-
-      pub past_next : lines_past last ≡ line_text labels names m ks ++ lines_past ks
-      unfolding lines_text
-      past_next = ap (lines_text labels names m) next
+  pub lines_end : (k : ℕ) → length rows ≤ k → lines_from k ≡ []
+  unfolding ended
+  lines_end k h = ap (λ l. lemma_lines J (clauses l)) (drop_all k rows h)

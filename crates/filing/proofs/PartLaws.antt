@@ -1,9 +1,10 @@
 -- Laws of a loop that writes a text part by part: what is left, written behind the parts before, gives the whole.
-use Rattle.std.proofs.Common.{◌≡◌, refl, sym, ap, ◌∙◌, List, [], ◌++◌, ℕ, ◌+◌, ◌≤◌, arith, length, length-append}
+use Rattle.std.proofs.Common.{◌≡◌, refl, sym, ap, ◌∙◌, List, [], ◌++◌, ℕ, ◌+◌, arith, length, length-append}
 use Rattle.lists.specs.Writing.{write}
 use Rattle.lists.proofs.WritingLaws.{length_write, write_none, write_more}
 use Rattle.put.specs.declared.Page.{Page}
 use Rattle.put.specs.Put.{Puts}
+use Rattle.filing.specs.Lines.{HasRoomFor, PutsAll}
 
 -- the whole is to stand behind what the first page holds; so far a page holds all but what is left
 pub record Going (first : Page) (whole : List ℕ) (page : Page) (left : List ℕ) : Type 0 where
@@ -16,7 +17,7 @@ module _ {first : Page} {whole : List ℕ} where
   pub going_begins : Going first whole first whole
   going_begins = record { same_reference = refl; place = refl; holds = refl; same = refl }
 
-  pub going_ends : {page : Page} {left : List ℕ} → Going first whole page left → left ≡ [] → Puts (length whole) first page whole
+  pub going_ends : {page : Page} {left : List ℕ} → Going first whole page left → left ≡ [] → PutsAll first page whole
   going_ends {page} {left} g e = record {
     same_reference = g.same_reference;
     short = omega arith;
@@ -26,7 +27,7 @@ module _ {first : Page} {whole : List ℕ} where
 
   -- the last part is all that is left
   pub going_last : {most : ℕ} {page last : Page} {left : List ℕ} → Going first whole page left → Puts most page last left
-      → Puts (length whole) first last whole
+      → PutsAll first last whole
   going_last g p = record {
     same_reference = p.same_reference ∙ g.same_reference;
     short = omega arith;
@@ -35,8 +36,8 @@ module _ {first : Page} {whole : List ℕ} where
   }
 
   module _ {page : Page} {left : List ℕ} (part rest : List ℕ) (g : Going first whole page left) (e : left ≡ part ++ rest)
-      (room : first.end + length whole ≤ length first.out.now) where
-    pub going_room : page.end + length part ≤ length page.out.now
+      (room : HasRoomFor first whole) where
+    pub going_room : HasRoomFor page part
     going_room = omega (arith, g.place, g.same, ap length e ∙ length-append part rest)
 
     pub going_next : {most : ℕ} {next : Page} → Puts most page next part → Going first whole next rest

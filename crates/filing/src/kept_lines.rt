@@ -1,37 +1,33 @@
 // The lines up to `lemmas`, without comments.
-ghost use Rattle.std.specs.Prelude.{◌+◌, ◌≤◌, length};
 ghost use Rattle.scan.specs.Lines.{lines};
-ghost use Rattle.put.specs.Put.{Puts};
 ghost use Rattle.form.specs.Form.{kept, ended};
-ghost use Rattle.filing.specs.KeptText.{kept_text};
+ghost use Rattle.filing.specs.Lines.{HasRoomFor, PutsAll, kept_text};
 
+use program::{is_comment, is_lemmas};
 use put::Page;
+use scan::Lines;
 
 // The line with its LF, and nothing of a comment.
-fn put_line(page: &mut Page, line: &[u8])
-    requires { page.old.end + length (kept_text line.now) ≤ length page.old.out.now }
-    ensures { Puts (length (kept_text line.now)) page.old page.new (kept_text line.now) }
+fn put_kept_line(page: &mut Page, line: &[u8])
+    requires { HasRoomFor page.old (kept_text line.now) }
+    ensures { PutsAll page.old page.new (kept_text line.now) }
 {
-    if scan::follows(line, 0, b"~") {
+    if is_comment(line) {
         return;
     }
     page.part(line);
     page.byte(b'\n');
 }
 
-// The end of a line moves on to the LF that is found: no count, so no `for`.
+// The lines before `lemmas`.
 pub(crate) fn put_kept(page: &mut Page, text: &[u8])
-    requires { page.old.end + length (ended (kept (lines text.now))) ≤ length page.old.out.now }
-    ensures { Puts (length (ended (kept (lines text.now)))) page.old page.new (ended (kept (lines text.now))) }
+    requires { HasRoomFor page.old (ended (kept (lines text.now))) }
+    ensures { PutsAll page.old page.new (ended (kept (lines text.now))) }
 {
-    let mut at: usize = 0;
-    while at < text.len() {
-        let e = scan::end_of(text, at, b'\n');
-        let line = &text[at..e];
-        if program::is_lemmas(line) {
+    for line in Lines::new(text) {
+        if is_lemmas(line.bytes) {
             return;
         }
-        put_line(&mut *page, line);
-        at = e + 1;
+        put_kept_line(&mut *page, line.bytes);
     }
 }

@@ -1,47 +1,34 @@
 // Writing a job in its filing form (document 02, S-1).
 #![tactic(auto)]
 
-mod keys; // keys.rt: a lemma's names as keys
-mod sorting; // sorting.rt: the names of each lemma in order, at its place
-mod rows; // rows.rt: the next lemma in order
-mod lemma_lines; // lemma_lines.rt: the lemma lines in order
+mod names; // names.rt: a name in a lemma
+mod sorted; // sorted.rt: a sorted list
+mod rows; // rows.rt: the lemmas in their filing form
+mod lemma_lines; // lemma_lines.rt: their lines
 mod kept_lines; // kept_lines.rt: the lines up to `lemmas`
 
-ghost use Rattle.std.specs.Prelude.{◌≡◌, true, ◌+◌, ◌≤◌, length};
-ghost use Rattle.job.specs.Fitness.{fit};
+ghost use Rattle.std.specs.Prelude.{◌≡◌};
 ghost use Rattle.form.specs.Form.{form};
 ghost use Rattle.job.specs.Answers.{answer_of};
 ghost use Rattle.filing.specs.Filing.{filing};
-ghost use Rattle.filing.specs.Row.{Whole};
-ghost use Rattle.put.specs.Put.{Puts};
+ghost use Rattle.filing.specs.Rows.{Sized};
+ghost use Rattle.filing.specs.Lines.{HasRoomFor, PutsAll};
 
 use job::{Fault, Job, Refusal};
 use kept_lines::put_kept;
-use lemma_lines::put_rows;
+use lemma_lines::put_lemmas;
 use put::Page;
-use sorting::file_rows;
+use rows::filed_rows;
 
-// A lemma's place among the table's items, and how many names it has.
-#[derive(Clone, Copy)]
-struct Row {
-    at: usize,
-    len: usize,
-}
-
-// The table's own items are put in order.
-fn put_form(page: &mut Page, text: &[u8], mut j: Job)
-    requires { (fit j ≡ true) × Whole j.items × (page.old.end + length (form text.now j) ≤ length page.old.out.now) }
-    ensures { Puts (length (form text.now j)) page.old page.new (form text.now j) }
+// The lines before `lemmas`, that line, and the lemma lines.
+fn put_form(page: &mut Page, text: &[u8], job: &Job)
+    requires sized { Sized job.now }
+    requires room { HasRoomFor page.old (form text.now job.now) }
+    ensures { PutsAll page.old page.new (form text.now job.now) }
 {
-    let own = j.program;
-    let count = j.lemmas;
-    let lengths = j.lengths;
     put_kept(&mut *page, text);
     page.part(b"lemmas\n");
-    let filed = file_rows(&mut j.items, lengths, count);
-    put_rows(
-        page, &j.labels, &j.names, own.steps, &j.items, &filed, count,
-    );
+    put_lemmas(page, job, &filed_rows(job));
 }
 
 // The filing form of a job text goes to the front of a buffer as long as the text; its length, or a refusal.
@@ -55,6 +42,6 @@ pub fn file(text: &[u8], out: &mut [u8]) -> Result<usize, Refusal>
         return Err(Fault::BufferShort.into());
     }
     let mut page = Page::new(out);
-    put_form(&mut page, text, job);
+    put_form(&mut page, text, &job);
     Ok(page.end)
 }

@@ -2,19 +2,13 @@
 ghost use Rattle.std.specs.Prelude.{◌≡◌, ◌&&◌, not};
 ghost use Rattle.job.specs.Fitness.{both_start, both_critical};
 
-use job::{Kind, Program, Word};
-use lists::get_or;
+use job::{Process, Program};
 
-#[tactic(auto, unfolding(job::specs::Fitness::both_start, job::specs::Fitness::both_critical, lists::specs::Tests::every))]
+#[tactic(auto, unfolding(job::specs::Fitness::both_start, lists::specs::Tests::every))]
 pub(crate) fn starts_fit(p: &Program) -> bool
     ensures { result ≡ (both_start p.now && not (both_critical p.now)) }
 {
-    let a = p.first_of(1);
-    let b = p.first_of(2);
-    let critical = Kind::Critical as u8;
-    a < p.steps
-        && b < p.steps
-        && !(Word::Start as u8 <= p.word
-            && get_or(&p.kind, a, 0) == critical
-            && get_or(&p.kind, b, 0) == critical)
+    p.first_of(Process::A as u8).is_some()
+        && p.first_of(Process::B as u8).is_some()
+        && !p.both_critical()
 }

@@ -14,6 +14,7 @@ struct Step<'a> {
     c: usize,
 }
 
+// Each column of the table is an array, so each value of a step has a line of its own.
 impl Step<'_> {
     fn process(self) -> u8
         ensures { result ≡ num self.entry.program.now.process self.entry.c }

@@ -34,6 +34,13 @@ job_of t = record {
   items = t.items;
 }
 
+-- the program and the job that a table gives
+abbrev pub IsProgramOf : Table → Program → Type 0
+IsProgramOf t p = p ≡ program_of t
+
+abbrev pub IsJobOf : Table → Job → Type 0
+IsJobOf t j = j ≡ job_of t
+
 -- acceptance, with number and place 0, or number and place of a refusal
 abbrev pub in_c : Answer (Unit {0}) → AnswerInC
 in_c (gives _) = record { accepted = true; number = 0; place = 0 }

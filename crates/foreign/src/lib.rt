@@ -5,7 +5,7 @@ ghost use Rattle.std.specs.Prelude.{◌≡◌};
 ghost use Rattle.reply.specs.Check.{checked};
 ghost use Rattle.readoff.specs.ReadingOff.{reading_off};
 ghost use Rattle.values.specs.ToValues.{giving_values};
-ghost use Rattle.foreign.specs.Foreign.{program_of, job_of, in_c, answer_in, buffer_in};
+ghost use Rattle.foreign.specs.Foreign.{job_of, in_c, answer_in, buffer_in};
 
 use job::{Job, Program, Refusal};
 
@@ -37,43 +37,53 @@ pub struct Answer {
     pub place: usize,
 }
 
-fn program_of(t: Table) -> Program
-    ensures { result ≡ program_of t }
-{
-    let process = t.process;
-    let kind = t.kind;
-    let to = t.to;
-    let other = t.other;
-    let variable = t.variable;
-    let value = t.value;
-    Program {
-        bound: t.bound,
-        word: t.word,
-        steps: t.steps,
-        variables: t.variables,
-        process,
-        kind,
-        to,
-        other,
-        variable,
-        value,
+impl From<Table> for Program {
+    ghost use Rattle.foreign.specs.Foreign.{IsProgramOf};
+
+    ghost from_gives = { IsProgramOf };
+
+    fn from(t: Table) -> Program {
+        let Table {
+            process,
+            kind,
+            to,
+            other,
+            variable,
+            value,
+            ..
+        } = t;
+        Program {
+            bound: t.bound,
+            word: t.word,
+            steps: t.steps,
+            variables: t.variables,
+            process,
+            kind,
+            to,
+            other,
+            variable,
+            value,
+        }
     }
 }
 
-fn job_of(t: Table) -> Job
-    ensures { result ≡ job_of t }
-{
-    let program = program_of(t);
-    let names = [0; 4 * Job::STEPS];
-    let lengths = t.lengths;
-    let items = t.items;
-    Job {
-        program,
-        labels: names,
-        names,
-        lemmas: t.lemmas,
-        lengths,
-        items,
+impl From<Table> for Job {
+    ghost use Rattle.foreign.specs.Foreign.{IsJobOf};
+
+    ghost from_gives = { IsJobOf };
+
+    #[tactic(auto, unfolding(crate::specs::Foreign::job_of))]
+    fn from(t: Table) -> Job {
+        let names = [0; 4 * Job::STEPS];
+        let Table { lengths, items, .. } = t;
+        Job {
+            program: Program::from(t),
+            labels: names,
+            names,
+            lemmas: t.lemmas,
+            lengths,
+            items,
+        }
     }
 }
 
@@ -103,7 +113,7 @@ pub extern "C" fn check_reply(t: Table, reply: &[u8], work: &mut [u8]) -> Answer
     ensures { (result ≡ in_c (answer_in (checked (job_of t) reply.now work.old)))
         × (work.new ≡ buffer_in (checked (job_of t) reply.now work.old)) }
 {
-    reply::check(job_of(t), reply, work).into()
+    reply::check(t.into(), reply, work).into()
 }
 
 #[unsafe(no_mangle)]
@@ -111,7 +121,7 @@ pub extern "C" fn read_off(t: Table, values: &[u8], run: &mut [u8]) -> Answer
     ensures { (result ≡ in_c (reading_off (job_of t) values.now run.old).answer)
         × (run.new ≡ (reading_off (job_of t) values.now run.old).buffer) }
 {
-    readoff::read_off(job_of(t), values, run).into()
+    readoff::read_off(t.into(), values, run).into()
 }
 
 #[unsafe(no_mangle)]
@@ -119,5 +129,5 @@ pub extern "C" fn run_to_values(t: Table, run: &[u8], values: &mut [u8]) -> Answ
     ensures { (result ≡ in_c (giving_values (job_of t) run.now values.old).answer)
         × (values.new ≡ (giving_values (job_of t) run.now values.old).buffer) }
 {
-    values::run_to_values(job_of(t), run, values).into()
+    values::run_to_values(t.into(), run, values).into()
 }

@@ -25,7 +25,7 @@ use Rattle.program.specs.ProgramLine.{whole as whole_program_line}
 use Rattle.program.specs.Program.{follow, program, opened, from_line1, program_of}
 use Rattle.program.specs.Program.{whole as whole_line1}
 use Rattle.parse.specs.Answers.{without_lemmas, then}
-use Rattle.parse.specs.Labels.{target_of, aim, enter_to, enter_other, link_step, link, started, at_lemmas}
+use Rattle.parse.specs.Labels.{target_of, aim, entered, link_step, link, started, at_lemmas}
 use Rattle.parse.specs.Lemmas.{filled, words, bare, named, lemma, whole, lemma_line, lemma_lines}
 use Rattle.parse.specs.Reading.{from_lemmas, reading}
 use Rattle.order.specs.Sorting.{insert, sort, from_left, keep}
@@ -52,7 +52,7 @@ unfolding bytes remaining filed both_signs has sort insert from_left keep kept n
     fixed_field bit_field range_field end_field bound_end_field whole_line after first_line number_at value_of word_of fresh bit_of
     else_line end_line goto_line test_line kind_line step_line blank mention_at process_of other_end enter add_step is_lemmas is_comment
     stepped program_line whole_program_line follow program opened from_line1 program_of whole_line1 without_lemmas then target_of aim
-    enter_to enter_other link_step link started at_lemmas filled words bare named_in named lemma whole lemma_line lemma_lines
+    entered link_step link started at_lemmas filled words bare named_in named lemma whole lemma_line lemma_lines
     from_lemmas reading
 one_bit = refl
 
@@ -64,6 +64,6 @@ unfolding bytes remaining filed both_signs has sort insert from_left keep kept n
     fixed_field bit_field range_field end_field bound_end_field whole_line after first_line number_at value_of word_of fresh bit_of
     else_line end_line goto_line test_line kind_line step_line blank mention_at process_of other_end enter add_step is_lemmas is_comment
     stepped program_line whole_program_line follow program opened from_line1 program_of whole_line1 without_lemmas then target_of aim
-    enter_to enter_other link_step link started at_lemmas filled words bare named_in named lemma whole lemma_line lemma_lines
+    entered link_step link started at_lemmas filled words bare named_in named lemma whole lemma_line lemma_lines
     from_lemmas reading
 all_dropped = refl

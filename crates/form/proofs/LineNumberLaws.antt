@@ -28,7 +28,7 @@ use Rattle.lines.specs.StepLine.{kind_line, step_line}
 use Rattle.lines.specs.declared.Step.{Step}
 use Rattle.program.specs.declared.Draft.{Draft}
 use Rattle.parse.specs.Answers.{without_lemmas, then}
-use Rattle.parse.specs.Labels.{aim, enter_to, enter_other, link_step, link, started, at_lemmas}
+use Rattle.parse.specs.Labels.{aim, with_to, with_other, entered, link_step, link, started, at_lemmas}
 use Rattle.parse.proofs.AnswerLaws.{goes_on}
 use Rattle.form.proofs.ResultLaws.{not_ok, taken, passed, then_told}
 
@@ -142,25 +142,20 @@ then_alike : {T U : Type 0} (m k : Result T Refusal) (f g : T → Result U Refus
     → ((y : T) → m ≡ Ok y → k ≡ Ok y) → ((y : T) → f y ≡ Ok x → g y ≡ Ok x) → then k g ≡ Ok x
 then_alike m k f g x h e s = let (y, a, b) = then_told m f x h in goes_on _ g _ (e y a) ∙ s y b
 
-to_alike : (P Q : Program) (k p q : ℕ) (t : Result ℕ Fault) → enter_to P k p t ≡ Ok Q → enter_to P k q t ≡ Ok Q
-unfolding enter_to
-to_alike P Q k p q (Ok i) h = h
-to_alike P Q k p q (Err fault) h = not_ok h
-
-other_alike : (P Q : Program) (k p q : ℕ) (t : Result ℕ Fault) → enter_other P k p t ≡ Ok Q → enter_other P k q t ≡ Ok Q
-unfolding enter_other
-other_alike P Q k p q (Ok i) h = h
-other_alike P Q k p q (Err fault) h = not_ok h
+entered_alike : (with : ℕ → Program) (Q : Program) (p q : ℕ) (t : Result ℕ Fault) → entered with p t ≡ Ok Q → entered with q t ≡ Ok Q
+unfolding entered
+entered_alike with Q p q (Ok i) h = h
+entered_alike with Q p q (Err fault) h = not_ok h
 
 module _ (d : Draft) (ns : List ℕ) where
   step_alike : (k : ℕ) (P Q : Program) → link_step d k P ≡ Ok Q → link_step (relined d ns) k P ≡ Ok Q
   unfolding link_step aim
   step_alike k P Q h =
-      then_alike _ _ _ _ Q h (λ R a. to_alike P R k _ _ _ a) λ R a. go (has_other (num d.program.kind k)) R a
+      then_alike _ _ _ _ Q h (λ R a. entered_alike (with_to P k) R _ _ _ a) λ R a. go (has_other (num d.program.kind k)) R a
     where
-      go : (b : Bool) (R : Program) → cond b (enter_other R k (num d.line k) (aim d d.other k)) (Ok R) ≡ Ok Q
-          → cond b (enter_other R k (num ns k) (aim d d.other k)) (Ok R) ≡ Ok Q
-      go true R a = other_alike R Q k _ _ _ a
+      go : (b : Bool) (R : Program) → cond b (entered (with_other R k) (num d.line k) (aim d d.other k)) (Ok R) ≡ Ok Q
+          → cond b (entered (with_other R k) (num ns k) (aim d d.other k)) (Ok R) ≡ Ok Q
+      go true R a = entered_alike (with_other R k) Q _ _ _ a
       go false R a = a
 
   link_alike : (k : ℕ) (P : Program) → link d k ≡ Ok P → link (relined d ns) k ≡ Ok P

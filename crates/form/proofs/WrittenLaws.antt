@@ -3,21 +3,22 @@ use mathlib.Core.Path.{◌≡◌, refl, sym, ap, ◌∙◌, subst}
 use mathlib.Core.Bool.{Bool, true, false, cond}
 use mathlib.Core.Logic.{◌⊎◌, inl, inr}
 use mathlib.Core.List.{List, [], ◌∷◌, ◌++◌, map}
-use Prim.Native.Nat.{ℕ, ◌+◌, ◌-◌, ◌≤◌, ◌<◌}
+use Prim.Native.Nat.{ℕ, ◌+◌, ◌≤◌, ◌<◌}
 use native.Mathlib.Omega.{arith}
 use native.Mathlib.Decide.{dec_lt}
 use borrow.Author.Tests.{eq-eqb, ne_eqb, eqb-false, le-ltb, ltb-false}
 use Rattle.std.specs.Prelude.{Ok}
 use lib.Dec.{eqb, ltb}
+use lib.Seq.{drop-drop}
 use lib.ListN.{length, drop, take, length-append, length-take, length-drop}
-use Rattle.lists.specs.Pieces.{Pieces, last, piece, onto, cut}
+use Rattle.lists.specs.Pieces.{Pieces, last, piece, onto, cut, up_to}
+use Rattle.lists.proofs.PieceLaws.{length_up_to}
 use Rattle.order.specs.Sorting.{In}
 use Rattle.order.proofs.MemberLaws.{in_append}
 use Rattle.order.proofs.WeightLaws.{weight}
-use Rattle.scan.specs.Bytes.{word_at, plain}
+use Rattle.scan.specs.Bytes.{plain}
 use Rattle.scan.specs.Lines.{Row, row, rows, lines}
-use Rattle.scan.proofs.WordLaws.{word_fits}
-use Rattle.scan.proofs.LineLaws.{lines_at, lines_out}
+use Rattle.scan.proofs.LineLaws.{lines_first, lines_none}
 use Rattle.fields.specs.Fields.{max_columns, whole_line}
 use Rattle.parse.specs.Lemmas.{word, filled, words}
 use Rattle.form.specs.Form.{spaced, ended}
@@ -241,16 +242,17 @@ lines_next text at l ls e = go (dec_lt at (length text)) e
   where
     go : Dec (at < length text) → lines (drop at text) ≡ l ∷ ls → lines (drop (at + long l.bytes) text) ≡ ls
     go (yes h) e =
-        let end = at + length (word_at 10 text at) in
-        let first = lines_at text at end h refl in
-        let here : l ≡ row (take (end - at) (drop at text)) (ltb end (length text)) = cc in
-        let behind : lines (drop (end + 1) text) ≡ ls = cc in
-        let ends = length-take (end - at) (drop at text) in
-        let next : at + long l.bytes ≡ end + 1 =
-        omega (arith, ends, word_fits 10 text at end refl, length-drop at text, ap (λ (r : Row). long r.bytes) here) in
-        ap (λ k. lines (drop k text)) next ∙ behind
+        let s = drop at text in
+        let k = length (up_to 10 s) in
+        let some : 0 < length s = omega (arith, length-drop at text) in
+        let first = lines_first s k some refl in
+        let here : l ≡ row (take k s) (ltb k (length s)) = cc in
+        let behind : lines (drop (k + 1) s) ≡ ls = cc in
+        let next : at + long l.bytes ≡ at + (k + 1) =
+        omega (arith, length_up_to 10 s, length-take k s, ap (λ (r : Row). long r.bytes) here) in
+        ap (λ n. lines (drop n text)) next ∙ ap lines (sym (drop-drop (k + 1) at text)) ∙ behind
     go (no h) e =
-        let none : [] ≡ l ∷ ls = sym (lines_out text at (omega arith)) ∙ e in
+        let none : [] ≡ l ∷ ls = sym (lines_none (drop at text) (omega (arith, length-drop at text))) ∙ e in
         let never : ◌≡◌ {A = ℕ} 0 1 = cc in
         absurd (omega arith)
 

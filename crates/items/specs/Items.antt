@@ -1,11 +1,18 @@
 -- A name of a lemma (document 01, 'The job text'), looked up among the steps and then among the variables.
-use Rattle.std.specs.Prelude.{ℕ, ◌+◌, cond, ◌&&◌, Option, Some, None, List, leb, length}
+use Rattle.std.specs.Prelude.{◌≡◌, ℕ, ◌+◌, cond, ◌&&◌, Option, Some, None, List, leb, length}
 use Rattle.lists.specs.Tests.{within}
 use Rattle.job.specs.Limits.{max_steps}
+use Rattle.job.specs.declared.Job.{Job}
 use Rattle.scan.specs.Bytes.{word_at}
 use Rattle.scan.specs.Names.{lookup}
 use Rattle.fields.specs.declared.Cursor.{Cursor}
 use Rattle.items.specs.declared.Name.{Name}
+use Rattle.items.specs.declared.Names.{Names}
+
+-- those of a job
+abbrev pub AreNamesOf : Job → Names → Type 0
+AreNamesOf j n =
+    (n.labels.now ≡ j.labels) × (n.names.now ≡ j.names) × (n.steps ≡ j.program.steps) × (n.variables ≡ j.program.variables)
 
 -- 'item c is step c up to m, then variables'
 abbrev pub named_at : Option ℕ → Option ℕ → ℕ → Option ℕ

@@ -1,6 +1,5 @@
 -- The proof of demand 3 (start at Accuracy) and of the marked cases, and the laws of the definitions.
 pub mod Good
-pub mod SignLaws
 pub mod FitnessLaws
 pub mod InRange
 pub mod SatLaws
@@ -21,5 +20,6 @@ pub mod LargerListing
 pub mod EmptyClauseListing
 pub mod FromStartListing
 pub mod Listings
+pub mod FirstLaws
 pub mod FitCases
 pub mod RunCases

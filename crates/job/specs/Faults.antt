@@ -1,5 +1,5 @@
 -- The rows of document 01's table, 'What is turned away': the number of each, and a refusal with its place.
-use Rattle.std.specs.Prelude.{ℕ}
+use Rattle.std.specs.Prelude.{ℕ, List, ◌++◌, codes, decimal}
 use Rattle.job.specs.declared.refusal.Fault.{Fault}
 use Rattle.job.specs.declared.refusal.Fault.TheVariants.{TextSize, LineLong, LineByte, LineOpen, FirstLine, NoLemmas, ManySteps}
 use Rattle.job.specs.declared.refusal.Fault.TheVariants.{NameLong, NameIll, NameUsed, NoSpace, TextAfter, NoGoto, ToIll, NoEquals}
@@ -61,3 +61,7 @@ refusal_at fault place = record { fault = fault; place = place }
 -- 'The place is 0 unless given.'
 abbrev pub refusal_of : Fault → Refusal
 refusal_of fault = refusal_at fault 0
+
+-- 'refused N at P'
+abbrev pub refusal_text : Refusal → List ℕ
+refusal_text r = codes "refused " ++ decimal (number_of r.fault) ++ codes " at " ++ decimal r.place

@@ -91,7 +91,13 @@ impl From<Fault> for Refusal {
     }
 }
 
+// What the programs say of a refusal.
 impl fmt::Display for Refusal {
+    ghost use Rattle.std.specs.Prelude.{Some};
+    ghost use Rattle.job.specs.Faults.{refusal_text};
+
+    ghost output = { λ refusal. Some (refusal_text refusal) };
+
     fn fmt<W: fmt::Write>(&self, f: &mut fmt::Formatter<W>) -> fmt::Result {
         write!(f, "refused {} at {}", self.fault.number(), self.place)
     }

@@ -1,4 +1,5 @@
-// Line 1 and the step line (document 01, 'The job text'), read field by field from left to right.
+// Line 1 and the step line (document 01, 'The job text'), read field by field from left to right. Each field's answer is taken apart by
+// let .. else, the form that 01 names for it.
 #![tactic(auto)]
 
 ghost use Rattle.std.specs.Prelude.{◌≡◌, ◌≤◌, drop};
@@ -17,6 +18,7 @@ pub struct FirstLine {
 }
 
 // What a step line says: its kind, where its name ends, V's columns, v, L's columns, and where M starts.
+// What a kind has not is 0, as in the definition: an Option for each would only say the kind again.
 #[derive(Clone, Copy, PartialEq, Eq, Debug)]
 pub struct Step {
     pub kind: Kind,
@@ -35,7 +37,7 @@ fn value(b: u8) -> usize
     ensures digit { result ≤ 9 }
 {
     if b.is_ascii_digit() {
-        b as usize - 48
+        usize::from(b - b'0')
     } else {
         0
     }

@@ -47,39 +47,6 @@ length_some x = go (split (ltb x 10))
     go (inl e) = rw (length_small x (ltb-true x 10 e)) (omega arith)
     go (inr e) = rw (length_more x (ltb-false x 10 e)) (omega arith)
 
-length_below : (k x : ℕ) → length (digits_below k x) ≤ k
-unfolding digits_below
-length_below zero x = omega arith
-length_below (suc k) x = rw length-append (go (ltb x 10) (length_below k (x / 10)))
-  where
-    go : (b : Bool) → length (digits_below k (x / 10)) ≤ k → length (higher b (digits_below k) (x / 10)) + 1 ≤ suc k
-    go true h = omega arith
-    go false h = omega arith
-
-pub length_most : (x : ℕ) → length (numeral x) ≤ x + 1
-unfolding numeral
-length_most x = omega (arith, length_below (suc x) x)
-
-pub length_two : (x : ℕ) → 10 ≤ x → x < 100 → length (numeral x) ≡ 2
-length_two x h l = rw (length_more x h, length_small (x / 10) (omega arith))
-
-pub length_three : (x : ℕ) → 100 ≤ x → x < 1000 → length (numeral x) ≡ 3
-length_three x h l = rw (length_more x (omega arith), length_two (x / 10) (omega arith) (omega arith))
-
-pub length_four : (x : ℕ) → 1000 ≤ x → x < 10000 → length (numeral x) ≡ 4
-length_four x h l = rw (length_more x (omega arith), length_three (x / 10) (omega arith) (omega arith))
-
--- four digits at once
-pub length_past : (x : ℕ) → 10000 ≤ x → length (numeral x) ≡ length (numeral (x / 10000)) + 4
-length_past x h =
-    let e : x / 10 / 10 / 10 / 10 ≡ x / 10000 = omega arith in
-    let a = length_more x (omega arith) in
-    let b = length_more (x / 10) (omega arith) in
-    let c = length_more (x / 10 / 10) (omega arith) in
-    let d = length_more (x / 10 / 10 / 10) (omega arith) in
-    let f : length (numeral (x / 10 / 10 / 10 / 10)) ≡ length (numeral (x / 10000)) = ap (λ (k : ℕ). length (numeral k)) e in
-    omega arith
-
 -- a number below a power of ten
 pub length_few : (k x : ℕ) → x < 10 ^ suc k → length (numeral x) ≤ suc k
 length_few zero x h = rw (length_small x (omega arith)) (omega arith)

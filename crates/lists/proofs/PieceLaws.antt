@@ -1,34 +1,17 @@
--- Laws of parts of a text and of its pieces: one law for each way out of a loop over its bytes, lines or words.
+-- Laws of the pieces of a text, and of how a text begins.
 use mathlib.Core.Path.{◌≡◌, refl, sym, ap, ◌∙◌}
 use mathlib.Core.Bool.{Bool, true, false, ◌&&◌, cond, false≢true}
 use mathlib.Core.List.{List, [], ◌∷◌, ◌++◌}
-use Prim.Native.Nat.{ℕ, zero, suc, ◌+◌, ◌≤◌, ◌<◌}
+use Prim.Native.Nat.{ℕ, suc, ◌≤◌, ◌<◌}
 use native.Mathlib.Omega.{arith}
-use native.Mathlib.Nat.{zero-add, suc-add}
-use native.Mathlib.Numerals.{add-one}
+use native.Mathlib.Decide.{ℕ_discrete}
 use borrow.Author.Tests.{eq-eqb, ne_eqb, eqb-true}
-use lib.Dec.{eqb}
-use lib.ListN.{length, get_or, take, drop, drop_of_length-le, length-take}
-use lib.Seq.{slice, slice-cons, length-slice, drop-cons, drop-drop, take-take, take-nil, take-length}
+use lib.Dec.{eqb, eqb-suc-suc}
+use lib.ListN.{length, take, drop}
+use lib.Pointwise.{pointwise}
+use Rattle.std.specs.List.{starts_with}
 use Rattle.lists.specs.Pieces.{Pieces, last, piece, onto, cut, up_to, starts, is}
-
--- ---- parts of a text
-
--- one byte more
-pub part : (s : List ℕ) (i to : ℕ) → i < to → to ≤ length s → slice i to s ≡ get_or s i 0 ∷ slice (i + 1) to s
-part s i to h k = slice-cons i to s 0 h k ∙ ap (λ (j : ℕ). get_or s i 0 ∷ slice j to s) (sym (add-one i))
-
-pub part_none : (s : List ℕ) (i to : ℕ) → to ≤ i → slice i to s ≡ []
-part_none s i to h = drop_of_length-le (take to s) {i = i} (omega (arith, length-take to s))
-
--- the part that ends n bytes on
-pub part_take : (s : List ℕ) (i to n : ℕ) → i + n ≤ to → take n (slice i to s) ≡ slice i (i + n) s
-part_take s i to n h = take_drop i n (take to s) ∙ ap (drop i) (take-take (i + n) to s h)
-  where
-    take_drop : (i n : ℕ) (l : List ℕ) → take n (drop i l) ≡ drop i (take (i + n) l)
-    take_drop zero n l = rw (zero-add n)
-    take_drop (suc i) n [] = take-nil n ∙ sym (ap (drop (suc i)) (take-nil (suc i + n)))
-    take_drop (suc i) n (x ∷ xs) = rw (suc-add i n) (take_drop i n xs)
+use Rattle.lists.proofs.Logic.{and_no}
 
 -- ---- up to the first k
 
@@ -64,38 +47,7 @@ drop_up_to k (b ∷ bs) h = go (eqb b k) refl h (drop_up_to k bs)
     go true e h f = ap (λ x. x ∷ bs) (eqb-true b k e)
     go false e h f = f (omega arith)
 
-module _ (k : ℕ) (s : List ℕ) (i to : ℕ) where
-  pub up_hit : i < to → to ≤ length s → get_or s i 0 ≡ k → length (up_to k (slice i to s)) ≡ 0
-  unfolding up_to
-  up_hit h l e = rw (part s i to h l, eq-eqb (get_or s i 0) k e)
-
-  pub up_miss : i < to → to ≤ length s → (get_or s i 0 ≡ k → ⊥) → length (up_to k (slice i to s))
-      ≡ suc (length (up_to k (slice (i + 1) to s)))
-  unfolding up_to
-  up_miss h l e = rw (part s i to h l, ne_eqb (get_or s i 0) k e)
-
-  pub up_none : to ≤ i → length (up_to k (slice i to s)) ≡ 0
-  unfolding up_to
-  up_none h = rw (part_none s i to h)
-
-  pub up_within : i ≤ to → to ≤ length s → i + length (up_to k (slice i to s)) ≤ to
-  up_within h l = omega (arith, length_up_to k (slice i to s), length-slice i to s l)
-
 -- ---- how a text begins
-
-module _ (t : List ℕ) (i : ℕ) (s : List ℕ) (at to : ℕ) where
-  pub starts_step : i < length t → at < to → to ≤ length s
-      → starts (drop i t) (slice at to s) ≡ (eqb (get_or s at 0) (get_or t i 0) && starts (drop (i + 1) t) (slice (at + 1) to s))
-  unfolding starts
-  starts_step h k l = rw (part s at to k l, drop-cons t i 0 h, add-one i)
-
-  pub starts_out : i < length t → to ≤ at → starts (drop i t) (slice at to s) ≡ false
-  unfolding starts
-  starts_out h k = rw (part_none s at to k, drop-cons t i 0 h)
-
-  pub starts_done : length t ≤ i → starts (drop i t) (slice at to s) ≡ true
-  unfolding starts
-  starts_done h = rw (drop_of_length-le t {i = i} h)
 
 pub starts_length : (t p : List ℕ) → starts t p ≡ true → length t ≤ length p
 unfolding starts
@@ -107,14 +59,34 @@ starts_length (x ∷ xs) (b ∷ bs) h = go (eqb b x) h (starts_length xs bs)
     go true h f = omega (arith, f h)
     go false h f = absurd (false≢true h)
 
--- a text of t's length is t when it begins with it, and one of another length is not
-pub is_as_starts : (t p : List ℕ) → length p ≡ length t → is t p ≡ starts t p
-unfolding is
-is_as_starts t p h = rw (eq-eqb (length p) (length t) h)
+-- ---- the same by the library's words
 
-pub is_other_length : (t p : List ℕ) → (length p ≡ length t → ⊥) → is t p ≡ false
-unfolding is
-is_other_length t p h = rw (ne_eqb (length p) (length t) h)
+eqb_swap : (a b : ℕ) → eqb a b ≡ eqb b a
+eqb_swap a b = go (ℕ_discrete a b)
+  where
+    go : Dec (a ≡ b) → eqb a b ≡ eqb b a
+    go (yes e) = eq-eqb a b e ∙ sym (eq-eqb b a (sym e))
+    go (no e) = ne_eqb a b e ∙ sym (ne_eqb b a (λ x. e (sym x)))
+
+pub starts_is : (w s : List ℕ) → starts w s ≡ starts_with eqb s w
+unfolding starts
+starts_is [] s = refl
+starts_is (x ∷ xs) [] = refl
+starts_is (x ∷ xs) (b ∷ bs) = rw (starts_is xs bs, eqb_swap b x)
+
+-- a text is the word when the library finds them equal
+pub is_equal : (w s : List ℕ) → is w s ≡ pointwise eqb s w
+unfolding is starts
+is_equal [] [] = refl
+is_equal [] (b ∷ bs) = rw (ne_eqb (suc (length bs)) 0 (λ e. omega arith))
+is_equal (x ∷ xs) [] = and_no (eqb 0 (suc (length xs)))
+is_equal (x ∷ xs) (b ∷ bs) =
+    rw (eqb-suc-suc (length bs) (length xs))
+    (swap (eqb (length bs) (length xs)) (eqb b x) (starts xs bs) ∙ ap (λ t. eqb b x && t) (is_equal xs bs))
+  where
+    swap : (p q t : Bool) → (p && (q && t)) ≡ (q && (p && t))
+    swap true q t = refl
+    swap false q t = sym (and_no q)
 
 -- ---- pieces
 
@@ -157,30 +129,3 @@ pub cut_front : (k : ℕ) (p rest : List ℕ) → Without k p → cut k (p ++ (k
 unfolding cut
 cut_front k [] rest h = rw (eq-eqb k k refl)
 cut_front k (b ∷ p) rest h = rw (ne_eqb b k h.0) (ap (onto b) (cut_front k p rest h.1))
-
--- e is where the piece that begins at i ends
-module _ (k : ℕ) (s : List ℕ) (i to e : ℕ) (l : i ≤ to) (h : to ≤ length s) (at : e ≡ i + length (up_to k (slice i to s))) where
-  pub cut_last : e ≡ to → cut k (slice i to s) ≡ last (slice i e s)
-  cut_last p = cut_all k (slice i to s) (omega (arith, length-slice i to s h)) ∙ ap (λ (j : ℕ). last (slice i j s)) (sym p)
-
-  pub cut_piece : (e ≡ to → ⊥) → cut k (slice i to s) ≡ piece (slice i e s) (cut k (slice (e + 1) to s))
-  cut_piece p =
-      let n = length (up_to k (slice i to s)) in
-      let w = up_within k s i to l h in
-      let x : take n (slice i to s) ≡ slice i e s = part_take s i to n w ∙ ap (λ (j : ℕ). slice i j s) (sym at) in
-      let q : i + suc n ≡ e + 1 = omega arith in
-      let y : drop (suc n) (slice i to s) ≡ slice (e + 1) to s = drop-drop (suc n) i (take to s) ∙ ap (λ (j : ℕ). drop j (take to s)) q in
-      cut_first k (slice i to s) (omega (arith, p, length-slice i to s h)) ∙ rw (x, y)
-
--- the same of a text to its end
-module _ (k : ℕ) (s : List ℕ) (i e : ℕ) (l : i ≤ length s) (at : e ≡ i + length (up_to k (slice i (length s) s))) where
-  whole : (j : ℕ) → slice j (length s) s ≡ drop j s
-  whole j = ap (drop j) (take-length s)
-
-  pub rest_last : e ≡ length s → cut k (drop i s) ≡ last (slice i e s)
-  rest_last p = ap (cut k) (sym (whole i)) ∙ cut_last k s i (length s) e l (omega arith) at p
-
-  pub rest_piece : (e ≡ length s → ⊥) → cut k (drop i s) ≡ piece (slice i e s) (cut k (drop (e + 1) s))
-  rest_piece p =
-      ap (cut k) (sym (whole i)) ∙ cut_piece k s i (length s) e l (omega arith) at p
-      ∙ ap (λ (r : List ℕ). piece (slice i e s) (cut k r)) (whole (e + 1))

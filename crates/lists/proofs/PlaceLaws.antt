@@ -8,9 +8,11 @@ use native.Mathlib.Omega.{arith}
 use native.Mathlib.Decide.{ℕ_discrete}
 use native.Mathlib.Numerals.{add-one}
 use lib.ListN.{length}
+use Rattle.std.specs.Prelude.{ltb, Some, None, unwrap_or}
+use borrow.Author.Tests.{ltb-true, ltb-false, lt-ltb, le-ltb}
 use Rattle.lists.specs.Rows.{each, tab}
 use Rattle.lists.specs.Tests.{all}
-use Rattle.lists.specs.Places.{passing, first}
+use Rattle.lists.specs.Places.{passing, first, found}
 use Rattle.lists.proofs.Logic.{split, and_left, and_right}
 use Rattle.lists.proofs.RowLaws.{length_tab}
 
@@ -126,3 +128,33 @@ first_same f g n h = ap passing (go n h)
     go : (n : ℕ) → ((i : ℕ) → i < n → f i ≡ g i) → tab n (λ i. not (f i)) ≡ tab n (λ i. not (g i))
     go zero h = refl
     go (suc n) h = rw (go n (λ i l. h i (omega arith)), h n (omega arith))
+
+-- ---- a place below n, or none
+
+pub found_some : (n i : ℕ) → i < n → found n i ≡ Some i
+found_some n i l = rw (lt-ltb i n l) refl
+
+pub found_none : (n : ℕ) → found n n ≡ None
+found_none n = rw (le-ltb n n (omega arith)) refl
+
+pub found_is : (n i k : ℕ) → Some k ≡ found n i → (k ≡ i) × (i < n)
+found_is n i k e = go (split (ltb i n))
+  where
+    go : (ltb i n ≡ true) ⊎ (ltb i n ≡ false) → (k ≡ i) × (i < n)
+    go (inl h) = let f : Some k ≡ Some i = rw h at e in (cc, ltb-true i n h)
+    go (inr h) = let f : Some k ≡ None = rw h at e in let z : ◌≡◌ {A = ℕ} 0 1 = cc in absurd (omega arith)
+
+pub found_not : (n i : ℕ) → None ≡ found n i → n ≤ i
+found_not n i e = go (split (ltb i n))
+  where
+    go : (ltb i n ≡ true) ⊎ (ltb i n ≡ false) → n ≤ i
+    go (inl h) = let f : None ≡ Some i = rw h at e in let z : ◌≡◌ {A = ℕ} 0 1 = cc in absurd (omega arith)
+    go (inr h) = ltb-false i n h
+
+-- where n is said for none
+pub found_or : (n i : ℕ) → i ≤ n → unwrap_or (found n i) n ≡ i
+found_or n i h = go (ℕ_discrete i n)
+  where
+    go : Dec (i ≡ n) → unwrap_or (found n i) n ≡ i
+    go (yes e) = rw (e, found_none n) refl
+    go (no e) = rw (found_some n i (omega arith)) refl

@@ -45,11 +45,6 @@ pub within_over : (lo hi x : ℕ) → hi < x → within lo hi x ≡ false
 unfolding within every
 within_over lo hi x h = rw (lt-leb x hi h) (and_no (leb lo x))
 
--- at or above lo it is hi that decides
-pub within_upper : (lo hi x : ℕ) → lo ≤ x → within lo hi x ≡ leb x hi
-unfolding within every
-within_upper lo hi x h = rw (le-leb lo x h)
-
 module _ (f : ℕ → Bool) where
   pub all_at : (n : ℕ) → all n f ≡ true → (i : ℕ) → i < n → f i ≡ true
   unfolding all

@@ -6,9 +6,9 @@ use native.Mathlib.Omega.{arith}
 use native.Mathlib.Nat.{add_assoc, add-zero}
 use native.Mathlib.Numerals.{add-one}
 use native.Mathlib.Decide.{ℕ_discrete}
-use lib.ListN.{length, get_or, take, drop, set, length-set, length-append, length-take, length-drop, take-append-drop}
-use lib.Seq.{length-take-le, take_at, drop-cons, drop-drop, drop-append-add, set_at, set_split, append_snoc, take-set-le, take-set-lt}
-use lib.Seq.{take-suc-set, drop-set-lt, get_or-set_same, set-append_left, get_or_at}
+use lib.ListN.{length, get_or, take, drop, set, length-append, length-take, length-drop, take-append-drop}
+use lib.Seq.{length-take-le, take_at, drop-cons, drop-drop, drop-append-add, set_at, set_split, append_snoc}
+use lib.Seq.{get_or_at}
 use Rattle.lists.specs.Rows.{each, tab, num}
 use Rattle.lists.specs.Writing.{write}
 use Rattle.lists.proofs.RowLaws.{length_tab}
@@ -40,29 +40,10 @@ module _ {T : Type 0} (l : List T) (at : ℕ) where
       ∙ ap (λ k. drop k l) (add_assoc at (length p) (length q) ∙ ap (λ k. at + k) (sym (length-append p q))) in
       rw (take_at m (drop (at + length p) l) (at + length p) n, d) (simp append_assoc)
 
-  -- ---- one element, alone, before a part, and in front of it
+  -- ---- one element
 
   pub write_one : (x : T) → at < length l → set l at x ≡ write l at (x ∷ [])
   write_one x h = set_split l at x h ∙ sym (append_snoc (take at l) x (drop (suc at) l)) ∙ rw (add-one at)
-
-  -- an element, and then the part that ends before it
-  pub write_before : (p : List T) (x : T) → at + length p < length l → write (set l (at + length p) x) at p ≡ write l at (p ++ (x ∷ []))
-  write_before p x h =
-      let i = at + length p in
-      let n : at + length (p ++ (x ∷ [])) ≡ suc i = rw length-append (omega arith) in
-      let g : get_or (set l i x) i x ≡ x = get_or-set_same l i x x h in
-      rw (take-set-le at l i x (omega arith), drop-cons (set l i x) i x (rw length-set h), g, drop-set-lt (suc i) l i x (omega arith), n)
-      (simp append_assoc)
-
-  -- a part, and then an element in front of it
-  pub write_front : (p : List T) (x : T) → at < length l → set (write l (at + 1) p) at x ≡ write l at (x ∷ p)
-  write_front p x h =
-      let i : at + 1 ≡ suc at = add-one at in
-      let k : at < length (take (suc at) l) = rw (length-take-le (suc at) l h) (omega arith) in
-      let e : set (take (suc at) l) at x ≡ take at l ++ (x ∷ []) = sym (take-set-lt (suc at) l at x (omega arith))
-      ∙ take-suc-set l at x h in
-      let n : suc at + length p ≡ at + length (x ∷ p) = omega arith in
-      rw (i, append_assoc, set-append_left (take (suc at) l) (p ++ drop (suc at + length p) l) at x k, e, n) (simp append_assoc)
 
   -- ---- a row, element by element
 
@@ -126,11 +107,6 @@ module _ {T : Type 0} (l now : List T) (at to i n : ℕ) (g : ℕ → List T) (p
       e ∙ ap (λ x. write x to part) before ∙ ap (λ k. write (write l at (each i g)) k part) place
       ∙ ap (λ part. write (write l at (each i g)) (at + length (each i g)) part) (sym next)
       ∙ parts_grow l at i g (omega arith)
-
--- a part behind a part, by the place behind the first
-pub write_behind : {T : Type 0} (l : List T) (at to : ℕ) (p q : List T) → to ≡ at + length p → to + length q ≤ length l
-    → write (write l at p) to q ≡ write l at (p ++ q)
-write_behind l at to p q e h = ap (λ k. write (write l at p) k q) e ∙ write_more l at p q (omega arith)
 
 -- ---- a row over the first places of a list, and the rest kept
 

@@ -3,5 +3,4 @@ pub mod Order
 pub mod MemberLaws
 pub mod SortLaws
 pub mod FromLeftLaws
-pub mod SelectLaws
 pub mod WeightLaws

@@ -36,6 +36,12 @@ module _ {T : Type 0} (f : T → Bool) where
       go false p (inl e) g = clash k (ap f e ∙ p)
       go false p (inr i) g = g i
 
+-- where all pass, all are kept
+pub keep_all : {T : Type 0} (f : T → Bool) (xs : List T) → ((x : T) → In x xs → f x ≡ true) → keep f xs ≡ xs
+unfolding keep
+keep_all f [] h = refl
+keep_all f (x ∷ xs) h = rw (h x (inl refl)) (rw (keep_all f xs (λ y i. h y (inr i))))
+
 module _ {S T : Type 0} (f : S → T) where
   pub in_map : (z : T) (xs : List S) → In z (map f xs) → (x : S) × In x xs × (z ≡ f x)
   in_map z [] x' = elim x' [ ]
@@ -75,6 +81,19 @@ append_left z (x ∷ xs) ys (inr i) = inr (append_left z xs ys i)
 pub append_right : {T : Type 0} (z : T) (xs ys : List T) → In z ys → In z (xs ++ ys)
 append_right z [] ys i = i
 append_right z (x ∷ xs) ys i = inr (append_right z xs ys i)
+
+-- x in front or behind: the members are the same
+pub same_snoc : {T : Type 0} (x : T) (xs : List T) → Same (x ∷ xs) (xs ++ (x ∷ []))
+same_snoc {T = T} x xs = record { there = there; back = λ z i. back z (in_append z xs (x ∷ []) i) }
+  where
+    there : (z : T) → (z ≡ x) ⊎ In z xs → In z (xs ++ (x ∷ []))
+    there z (inl e) = append_right z xs (x ∷ []) (inl e)
+    there z (inr i) = append_left z xs (x ∷ []) i
+
+    back : (z : T) → In z xs ⊎ ((z ≡ x) ⊎ ⊥) → (z ≡ x) ⊎ In z xs
+    back z (inl i) = inr i
+    back z (inr (inl e)) = inl e
+    back z (inr (inr i)) = absurd i
 
 module _ {T : Type 0} (f : ℕ → T) where
   pub in_tab : (n : ℕ) (z : T) → In z (tab n f) → (k : ℕ) × (k < n) × (z ≡ f k)

@@ -30,9 +30,7 @@ use Rattle.text.specs.declared.Texted.{Texted}
 use Rattle.text.specs.Texts.{texted, with_texts}
 use Rattle.text.specs.Dimacs.{number_room, number_text, numbers_text}
 use Rattle.text.proofs.AllTexts.{texts_counted, numbers_are, numbers_append}
-use Rattle.outputs.specs.declared.dimacs.Piece.{Piece}
 use Rattle.outputs.specs.Dimacs.{clause_text, next_piece, PieceText}
-use Rattle.outputs.proofs.PrintingLaws.{written_within}
 
 -- ---- the text of a piece
 
@@ -84,7 +82,8 @@ module _ (J : Job) (c : ℕ) (old new : List ℤ) (w : Result Given Refusal)
     piece_front rest =
         let (_, i, h) = piece_given p e in
         let f = flat cs in
-        ap (λ l. take p.numbers (l ++ rest)) h ∙ rw append_assoc (take_at f (drop (0 + length f) old ++ rest) p.numbers (sym i))
+        ap (λ l. take p.numbers (l ++ rest)) h ∙ ap (take p.numbers) (append_assoc f (drop (0 + length f) old) rest)
+        ∙ take_at f (drop (0 + length f) old ++ rest) p.numbers (sym i)
 
     -- and their text is that of the clauses
     pub piece_text : (rest : List ℤ) (out out' : List ℕ) (t : Texted)
@@ -100,11 +99,6 @@ module _ (J : Job) (c : ℕ) (old new : List ℤ) (w : Result Given Refusal)
         let all = texts_counted (length xs) (number_text xs) out out' t said (counts (omega (arith, ap length front, piece_within))) in
         let same : each (length xs) (number_text xs) ≡ clause_text cs = numbers_are xs ∙ ap numbers_text front in
         record { clauses = j; bytes = all.0 ∙ ap length same; holds = all.1 ∙ ap (write out 0) same }
-
--- the text lies in the buffer
-pub piece_held : {cs : List Clause} {old new : List ℕ} {p : Piece} → PieceText cs old p new
-    → (p.length ≤ length new) × (p.length ≡ length (take p.length new))
-piece_held {cs} {old} {new} {p} h = written_within old new (clause_text cs) p.length h.bytes h.holds
 
 -- ---- the loop over the pieces: each has a clause, and no more than are left
 

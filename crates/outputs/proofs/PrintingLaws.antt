@@ -5,23 +5,29 @@ use Prim.Native.Nat.{ℕ, ◌+◌, ◌-◌, ◌≤◌}
 use native.Mathlib.Omega.{arith}
 use borrow.Author.Tests.{le-leb}
 use lib.ListN.{length, take, drop, length-append, length-drop, drop_of_length-le}
-use lib.Seq.{take-length, take_at, drop-drop}
-use Rattle.std.specs.Option.{unwrap_or}
-use Rattle.std.proofs.Common.{Option, Result, Ok, Err}
+use lib.Seq.{take-length, drop-drop}
+use Rattle.std.specs.Option.{IsSome, unwrap_or}
+use Rattle.std.proofs.Common.{refl, Option, Some, Result, Ok, Err}
 use Rattle.job.specs.declared.refusal.Refusal.{Refusal}
 use Rattle.lists.specs.Writing.{write}
 use Rattle.text.specs.Whole.{printed, with_text}
 use Rattle.text.specs.Lines.{refused}
-use Rattle.outputs.specs.Printing.{zeros, Holds, Shows, Prints}
+use Rattle.outputs.specs.Printing.{Shows, Prints}
 
 -- a text that has room is put whole
 module _ (text old new : List ℕ) (room : length text ≤ length old) (r : Option ℕ)
     (given : (r ≡ printed text old) × (new ≡ with_text text old)) where
-  pub given_whole : (unwrap_or r 0 ≡ length text) × (new ≡ write old 0 text)
+  whole : (r ≡ Some (length text)) × (new ≡ write old 0 text)
   unfolding printed with_text
-  given_whole =
+  whole =
       let fits = le-leb (length text) (length old) room in
-      (rw (given.0, fits), given.1 ∙ rw fits)
+      (given.0 ∙ rw fits, given.1 ∙ rw fits)
+
+  pub given_some : IsSome r
+  given_some = rw whole.0 refl
+
+  pub given_whole : (n : ℕ) → r ≡ Some n → (n ≡ length text) × (new ≡ write old 0 text)
+  given_whole n e = (ap (λ o. unwrap_or o 0) (sym e ∙ whole.0), whole.1)
 
 -- what is made, or else the refusal's line, is the text
 pub shows_prints : (text old mid new : List ℕ) (n : ℕ) (x : Result ℕ Refusal) → Shows text x old mid → Prints x mid n new
@@ -36,26 +42,14 @@ pub put_as : (old : List ℕ) {new p q : List ℕ} {n : ℕ} → (n ≡ length p
 put_as old (size, holds) e = (size ∙ ap length e, holds ∙ ap (write old 0) e)
 
 -- what is written at the front lies in the buffer
-pub written_within : (old new text : List ℕ) (n : ℕ) → n ≡ length text → new ≡ write old 0 text
-    → (n ≤ length new) × (n ≡ length (take n new))
-written_within old new text n e h =
-    let l = ap length h ∙ length-append text (drop (0 + length text) old) in
-    let front : take n new ≡ text = ap (take n) h ∙ take_at text (drop (0 + length text) old) n (sym e) in
-    (omega arith, e ∙ sym (ap length front))
-
--- the same of an array that a text was made in
-pub holds_within : {room : ℕ} {text array : List ℕ} {n : ℕ} → Holds room text array n
-    → (n ≤ length array) × (n ≡ length (take n array))
-holds_within {room} {text} {array} {n} h = written_within (zeros room) array text n h.size h.bytes
+pub written_within : (old new text : List ℕ) (n : ℕ) → n ≡ length text → new ≡ write old 0 text → n ≤ length new
+written_within old new text n e h = omega (arith, ap length h ∙ length-append text (drop (0 + length text) old))
 
 -- ---- a text at the front of the part of a buffer that is lent from a place on
 
 module _ (old : List ℕ) (at : ℕ) where
   left_is : take (length old - at) (drop at old) ≡ drop at old
   left_is = ap (λ k. take k (drop at old)) (sym (length-drop at old)) ∙ take-length (drop at old)
-
-  pub left_length : length (take (length old - at) (drop at old)) ≡ length old - at
-  left_length = ap length left_is ∙ length-drop at old
 
   pub part_at : (rest text : List ℕ) → rest ≡ write (take (length old - at) (drop at old)) 0 text
       → take at old ++ (rest ++ drop (length old - at) (drop at old)) ≡ write old at text

@@ -1,5 +1,5 @@
 // The first program: comments and header, and then the clauses piece by piece.
-ghost use Rattle.std.specs.Prelude.{◌≡◌, ◌++◌, ◌+◌, ◌≤◌, length};
+ghost use Rattle.std.specs.Prelude.{◌≡◌, ◌++◌, ◌≤◌, length};
 ghost use Rattle.lists.specs.Writing.{write};
 ghost use Rattle.job.specs.Limits.{max_text};
 ghost use Rattle.text.specs.Comments.{comments};
@@ -11,6 +11,7 @@ use super::line::put_refusal;
 use super::printed::Printed;
 use fit::FitJob;
 use job::{Job, Refusal};
+use totals::Header;
 
 // Comments are at most twice as long as the text.
 pub const OPENING: usize = 2 * Job::TEXT + text::LINE;
@@ -32,24 +33,24 @@ fn put_comments(out: &mut [u8], text: &[u8]) -> usize
     requires { length (comments text.now) ≤ length out.old }
     ensures { (result ≡ length (comments text.now)) × (out.new ≡ write out.old 0 (comments text.now)) }
 {
-    text::comment_text(text, out).unwrap_or(0)
+    text::comment_text(text, out).unwrap()
 }
 
-fn put_header(out: &mut [u8], at: usize, variables: usize, clauses: usize) -> usize
-    requires { at + line_room ≤ length out.old }
-    ensures { (result ≡ at + length (header variables clauses)) × (out.new ≡ write out.old at (header variables clauses)) }
+fn put_header(out: &mut [u8], counts: Header) -> usize
+    requires { line_room ≤ length out.old }
+    ensures { (result ≡ length (header counts.variables counts.clauses))
+        × (out.new ≡ write out.old 0 (header counts.variables counts.clauses)) }
 {
-    let length = text::header_text(variables, clauses, &mut out[at..]).unwrap_or(0);
-    at + length
+    text::header_text(counts.variables, counts.clauses, out).unwrap()
 }
 
-fn put_before(out: &mut [u8], text: &[u8], variables: usize, clauses: usize) -> usize
+fn put_before(out: &mut [u8], text: &[u8], counts: Header) -> usize
     requires { (length text.now ≤ max_text) × (opening_room ≤ length out.old) }
-    ensures { (result ≡ length (comments text.now ++ header variables clauses))
-        × (out.new ≡ write out.old 0 (comments text.now ++ header variables clauses)) }
+    ensures { (result ≡ length (comments text.now ++ header counts.variables counts.clauses))
+        × (out.new ≡ write out.old 0 (comments text.now ++ header counts.variables counts.clauses)) }
 {
     let end = put_comments(&mut *out, text);
-    put_header(out, end, variables, clauses)
+    end + put_header(&mut out[end..], counts)
 }
 
 // How long that is, and what follows.
@@ -66,11 +67,13 @@ fn put_opening(out: &mut [u8], text: &[u8]) -> Result<Begun, Refusal>
     let job = parse::read(text)?;
     let fit = FitJob::try_from(job)?;
     let header = totals::header_of(&fit);
-    let clauses = header.clauses;
-    let length = put_before(out, text, header.variables, clauses);
+    let length = put_before(out, text, header);
     Ok(Begun {
         length,
-        following: Following { fit, clauses },
+        following: Following {
+            fit,
+            clauses: header.clauses,
+        },
     })
 }
 

@@ -10,7 +10,7 @@ pub(crate) fn put_refusal(out: &mut [u8], refusal: Refusal) -> usize
     requires { line_room ≤ length out.old }
     ensures { (result ≡ length (refused refusal)) × (out.new ≡ write out.old 0 (refused refusal)) }
 {
-    text::refusal_text(refusal, out).unwrap_or(0)
+    text::refusal_text(refusal, out).unwrap()
 }
 
 // How long the text in a buffer is: what was made there, or the refusal's line, for which the buffer is as it was.

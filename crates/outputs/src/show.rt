@@ -37,7 +37,7 @@ fn put_run(out: &mut [u8], job: &[u8], reply: &[u8]) -> Result<usize, Refusal>
     Ok(lines.bytes)
 }
 
-// What is printed of a job text and a reply.
+// What is printed of a job text and a reply. It shares three lines with `file`: a function that is handed the maker has more.
 pub fn show(job: &[u8], reply: &[u8]) -> Printed<LINES>
     ensures { Holds shown_room (shown job.now reply.now) result.array result.length }
 {

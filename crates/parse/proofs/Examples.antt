@@ -29,7 +29,7 @@ use Rattle.program.specs.ProgramLine.{whole as whole_program_line}
 use Rattle.program.specs.Program.{follow, program, opened, from_line1, program_of}
 use Rattle.program.specs.Program.{whole as whole_line1}
 use Rattle.parse.specs.Answers.{table_of, forgotten, then, without_lemmas}
-use Rattle.parse.specs.Labels.{target_of, aim, enter_to, enter_other, link_step, link, started, at_lemmas}
+use Rattle.parse.specs.Labels.{target_of, aim, entered, link_step, link, started, at_lemmas}
 use Rattle.parse.specs.Lemmas.{filled, words, bare, named, lemma, whole, lemma_line, lemma_lines}
 use Rattle.parse.specs.Reading.{from_lemmas, reading}
 
@@ -61,7 +61,7 @@ unfolding bytes verdict every all within each passing first first_of both_critic
     fresh bit_of else_line end_line goto_line test_line kind_line step_line blank mention_at process_of other_end enter
     add_step is_lemmas
     is_comment stepped program_line whole_program_line follow program opened from_line1 program_of whole_line1 without_lemmas then
-    target_of aim enter_to enter_other link_step link started at_lemmas filled words bare named_in named lemma whole lemma_line
+    target_of aim entered link_step link started at_lemmas filled words bare named_in named lemma whole lemma_line
     lemma_lines
     from_lemmas reading
 table = (refl, refl, refl, refl, refl, refl, refl, refl, refl, refl, refl)
@@ -75,7 +75,7 @@ unfolding bytes verdict every all within each passing first first_of both_critic
     fresh bit_of else_line end_line goto_line test_line kind_line step_line blank mention_at process_of other_end enter
     add_step is_lemmas
     is_comment stepped program_line whole_program_line follow program opened from_line1 program_of whole_line1 without_lemmas then
-    target_of aim enter_to enter_other link_step link started at_lemmas filled words bare named_in named lemma whole lemma_line
+    target_of aim entered link_step link started at_lemmas filled words bare named_in named lemma whole lemma_line
     lemma_lines
     from_lemmas reading
 items = refl
@@ -101,7 +101,7 @@ unfolding bytes verdict word_read every all within each passing first first_of b
     enter add_step
     is_lemmas is_comment stepped program_line whole_program_line follow program opened from_line1 program_of whole_line1
     without_lemmas
-    then target_of aim enter_to enter_other link_step link started at_lemmas filled words bare named_in named lemma whole lemma_line
+    then target_of aim entered link_step link started at_lemmas filled words bare named_in named lemma whole lemma_line
     lemma_lines from_lemmas reading
 words_told = refl
 
@@ -158,7 +158,7 @@ unfolding bytes verdict every all within each passing first first_of both_critic
     fresh bit_of else_line end_line goto_line test_line kind_line step_line blank mention_at process_of other_end enter
     add_step is_lemmas
     is_comment stepped program_line whole_program_line follow program opened from_line1 program_of whole_line1 without_lemmas then
-    target_of aim enter_to enter_other link_step link started at_lemmas filled words bare named_in named lemma whole lemma_line
+    target_of aim entered link_step link started at_lemmas filled words bare named_in named lemma whole lemma_line
     lemma_lines
     from_lemmas reading
 as_told = refl
@@ -171,7 +171,7 @@ unfolding bytes verdict every all within each passing first first_of both_critic
     fresh bit_of else_line end_line goto_line test_line kind_line step_line blank mention_at process_of other_end enter
     add_step is_lemmas
     is_comment stepped program_line whole_program_line follow program opened from_line1 program_of whole_line1 without_lemmas then
-    target_of aim enter_to enter_other link_step link started at_lemmas filled words bare named_in named lemma whole lemma_line
+    target_of aim entered link_step link started at_lemmas filled words bare named_in named lemma whole lemma_line
     lemma_lines
     from_lemmas reading
 too_many = refl

@@ -20,7 +20,7 @@ use Rattle.scan.specs.Names.{lookup}
 use Rattle.scan.proofs.NameLaws.{lookup_below}
 use Rattle.program.specs.declared.Draft.{Draft}
 use Rattle.parse.specs.Answers.{then, without_lemmas}
-use Rattle.parse.specs.Labels.{target_of, enter_to, enter_other, link_step, link, started, at_lemmas}
+use Rattle.parse.specs.Labels.{target_of, with_to, with_other, entered, link_step, link, started, at_lemmas}
 use Rattle.parse.proofs.AnswerLaws.{Holds, cond_holds, then_holds}
 
 -- ---- one label
@@ -72,15 +72,11 @@ Steady P Q =
     × (Q.kind ≡ P.kind) × (Q.variable ≡ P.variable) × (Q.value ≡ P.value) × (Q.word ≡ P.word)
 
 module _ (P : Program) where
-  steady_to : (Q : Program) (k place : ℕ) (t : Result ℕ Fault) → Steady P Q → Holds (Steady P) (enter_to Q k place t)
-  unfolding enter_to
-  steady_to Q k place (Ok i) h = h
-  steady_to Q k place (Err fault) h = tt
-
-  steady_other : (Q : Program) (k place : ℕ) (t : Result ℕ Fault) → Steady P Q → Holds (Steady P) (enter_other Q k place t)
-  unfolding enter_other
-  steady_other Q k place (Ok i) h = h
-  steady_other Q k place (Err fault) h = tt
+  steady_entered : (with : ℕ → Program) (place : ℕ) (t : Result ℕ Fault) → ((i : ℕ) → Steady P (with i))
+      → Holds (Steady P) (entered with place t)
+  unfolding entered
+  steady_entered with place (Ok i) h = h i
+  steady_entered with place (Err fault) h = tt
 
 pub link_steady : (d : Draft) (k : ℕ) → Holds (Steady d.program) (link d k)
 unfolding link link_step
@@ -88,8 +84,8 @@ link_steady d zero = (refl, refl, refl, refl, refl, refl, refl, refl)
 link_steady d (suc k) =
     let I : Program → Type 0 = Steady d.program in
     then_holds I I (link d k) _ (link_steady d k) λ Q h.
-    then_holds I I (enter_to Q k (num d.line k) _) _ (steady_to d.program Q k _ _ h) λ R g.
-    cond_holds I (has_other (num d.program.kind k)) _ _ (λ _. steady_other d.program R k _ _ g) (λ _. g)
+    then_holds I I (entered (with_to Q k) (num d.line k) _) _ (steady_entered d.program (with_to Q k) _ _ (λ _. h)) λ R g.
+    cond_holds I (has_other (num d.program.kind k)) _ _ (λ _. steady_entered d.program (with_other R k) _ _ (λ _. g)) (λ _. g)
 
 -- a table that passes the checks has the program linked
 pub started_holds : (I : Job → Type 0) (d : Draft) (n : ℕ)

@@ -3,13 +3,13 @@ use mathlib.Core.Path.{◌≡◌, refl, sym, ap, ◌∙◌, subst}
 use mathlib.Core.Bool.{Bool, true, false, cond, and-true}
 use mathlib.Core.List.{List, [], ◌∷◌}
 use Rattle.std.specs.Prelude.{Option, Some, None, Result, Ok, Err}
-use Prim.Native.Nat.{ℕ, suc, ◌+◌, ◌-◌, ◌≤◌, ◌<◌}
+use Prim.Native.Nat.{ℕ, suc, ◌+◌, ◌≤◌, ◌<◌}
 use native.Mathlib.Omega.{arith}
 use native.Mathlib.Decide.{dec_lt}
 use native.Mathlib.Numerals.{add-one}
 use borrow.Author.Tests.{ne_eqb, le-leb, lt-leb}
-use lib.Dec.{eqb, ltb, leb}
-use lib.ListN.{length, get_or, drop, take, drop_of_length-le}
+use lib.Dec.{eqb, leb}
+use lib.ListN.{length, get_or, drop, drop_of_length-le}
 use lib.Seq.{drop-cons, drop-drop, take_all}
 use Rattle.lists.specs.Rows.{num}
 use Rattle.lists.specs.Tests.{within}
@@ -19,19 +19,18 @@ use Rattle.job.specs.Limits.{max_steps, max_lemmas, max_names}
 use Rattle.job.specs.declared.Program.{Program}
 use Rattle.job.specs.declared.Job.{Job}
 use Rattle.job.specs.declared.refusal.Fault.{Fault}
-use Rattle.job.specs.declared.refusal.Fault.TheVariants.{LemmaEmpty, NameUnknown, ManyNames}
+use Rattle.job.specs.declared.refusal.Fault.TheVariants.{NameUnknown, ManyNames}
 use Rattle.job.specs.declared.refusal.Refusal.{Refusal}
 use Rattle.scan.specs.Bytes.{word_at}
-use Rattle.scan.specs.Lines.{Row, row, lines}
+use Rattle.scan.specs.Lines.{Row}
 use Rattle.scan.specs.Names.{lookup}
 use Rattle.scan.proofs.NameLaws.{lookup_below}
-use Rattle.scan.proofs.WordLaws.{word_fits}
-use Rattle.scan.proofs.LineLaws.{lines_at}
+use Rattle.scan.proofs.WordLaws.{word_length}
 use Rattle.fields.specs.Fields.{whole_line}
 use Rattle.items.specs.Items.{named_at, named_in, known_in, item_field}
 use Rattle.items.specs.declared.Name.{Name}
 use Rattle.parse.specs.Answers.{refuse, then}
-use Rattle.parse.specs.Lemmas.{word, filled, words, bare, negated, item_in, signed, with_item, closed, named, lemma}
+use Rattle.parse.specs.Lemmas.{word, filled, words, bare, negated, item_in, signed, with_item, named, lemma}
 use Rattle.parse.specs.Lemmas.{whole, lemma_line, lemma_lines}
 use Rattle.parse.proofs.AnswerLaws.{Holds, cond_holds, then_holds}
 
@@ -100,7 +99,7 @@ module _ (s : List ℕ) (at : ℕ) (l : at < length s) (k : num s at ≡ 32 → 
   sign_word = ap negated word_cons ∙ and-true (eqb (num s at) 126)
 
   pub word_ends : (e : ℕ) → e ≡ at + length (word_at 32 s at) → (at < e) × (e ≤ length s)
-  word_ends e h = (omega (arith, h, ap (λ (w : List ℕ). length w) word_cons), omega (arith, h, word_fits 32 s at e h))
+  word_ends e h = (omega (arith, h, ap (λ (w : List ℕ). length w) word_cons), omega (arith, h, word_length 32 s at))
 
   -- behind its `~`, if there is one, stands the name, and both end at one place
   module _ (from : ℕ) (h : from ≡ cond (eqb (num s at) 126) (at + 1) at) where
@@ -172,26 +171,16 @@ module _ (j : Job) (n k : ℕ) (w : List ℕ) (ws : List (List ℕ)) where
   unfolding lemma then named
   lemma_on i h e = rw (lt-leb max_names k h, e)
 
-pub lemma_42 : (j : Job) (n : ℕ) → refuse LemmaEmpty n ≡ lemma j n 0 []
-unfolding lemma
-lemma_42 j n = refl
-
-pub lemma_done : (j : Job) (n k : ℕ) → (k ≡ 0 → ⊥) → Ok (closed j k) ≡ lemma j n k []
-unfolding lemma
-lemma_done j n k h = rw (ne_eqb k 0 h)
-
 -- ---- a lemma line, and all
 
 pub lines_none : (j : Job) (n : ℕ) → lemma_lines j n [] ≡ Ok j
 unfolding lemma_lines
 lines_none j n = refl
 
-pub lines_turn : (j : Job) (n : ℕ) (text : List ℕ) (at e : ℕ) → at < length text → e ≡ at + length (word_at 10 text at)
-    → lemma_lines j n (lines (drop at text))
-    ≡ then (lemma_line j (row (take (e - at) (drop at text)) (ltb e (length text))) (n + 1))
-    λ x. lemma_lines x (n + 1) (lines (drop (e + 1) text))
+pub lines_turn : (j : Job) (n : ℕ) (l : Row) (ls : List Row) (r : Result Job Refusal) → r ≡ lemma_line j l (n + 1)
+    → lemma_lines j n (l ∷ ls) ≡ then r λ x. lemma_lines x (n + 1) ls
 unfolding lemma_lines
-lines_turn j n text at e l k = ap (lemma_lines j n) (lines_at text at e l k)
+lines_turn j n l ls r e = rw e
 
 -- ---- lemmas leave the program as it is
 

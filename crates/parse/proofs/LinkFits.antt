@@ -21,7 +21,7 @@ use Rattle.job.specs.declared.refusal.Fault.{Fault}
 use Rattle.program.specs.declared.Draft.{Draft}
 use Rattle.program.proofs.PutLaws.{Put, put_set}
 use Rattle.program.proofs.DraftFits.{Drafted, mentioned_same, larger_first}
-use Rattle.parse.specs.Labels.{aim, enter_to, enter_other, link_step, link}
+use Rattle.parse.specs.Labels.{aim, with_to, with_other, entered, link_step, link}
 use Rattle.parse.proofs.AnswerLaws.{Holds, cond_holds, then_holds}
 use Rattle.parse.proofs.LabelLaws.{Steady, target_is}
 
@@ -56,11 +56,11 @@ module _ (d : Draft) (D : Drafted d.program) where
       pass _ (within_is 1 P.steps i a b, (c, tt))
 
   to_linked : (Q : Program) (k place : ℕ) → k < max_steps → Linking P k Q.to Q.other
-      → Holds (λ R. Half P k R.to R.other) (enter_to Q k place (aim d d.to k))
-  unfolding enter_to
+      → Holds (λ R. Half P k R.to R.other) (entered (with_to Q k) place (aim d d.to k))
+  unfolding entered
   to_linked Q k place l h = go (aim d d.to k) refl
     where
-      go : (t : Result ℕ Fault) → aim d d.to k ≡ t → Holds (λ R. Half P k R.to R.other) (enter_to Q k place t)
+      go : (t : Result ℕ Fault) → aim d d.to k ≡ t → Holds (λ R. Half P k R.to R.other) (entered (with_to Q k) place t)
       go (Err fault) e = tt
       go (Ok i) e =
           let p = put_set Q.to k i (omega (arith, h.to_size)) in
@@ -74,11 +74,11 @@ module _ (d : Draft) (D : Drafted d.program) where
           }
 
   other_linked : (Q : Program) (k place : ℕ) → k < max_steps → has_other (num P.kind k) ≡ true → Half P k Q.to Q.other
-      → Holds (λ R. Linking P (suc k) R.to R.other) (enter_other Q k place (aim d d.other k))
-  unfolding enter_other
+      → Holds (λ R. Linking P (suc k) R.to R.other) (entered (with_other Q k) place (aim d d.other k))
+  unfolding entered
   other_linked Q k place l f h = go (aim d d.other k) refl
     where
-      go : (t : Result ℕ Fault) → aim d d.other k ≡ t → Holds (λ R. Linking P (suc k) R.to R.other) (enter_other Q k place t)
+      go : (t : Result ℕ Fault) → aim d d.other k ≡ t → Holds (λ R. Linking P (suc k) R.to R.other) (entered (with_other Q k) place t)
       go (Err fault) e = tt
       go (Ok i) e =
           let p = put_set Q.other k i (omega (arith, h.other_size)) in

@@ -37,7 +37,7 @@ unfolding bytes every all within each passing first both_critical cut up_to all_
     program_line_lem.is_lemmas program_line_lem.is_comment program_line_lem.stepped program_line_lem.program_line
     program_line_lem.whole
     program.follow program.program program.opened program.from_line1 program.program_of program.whole
-    without_lemmas then labels.target_of labels.aim labels.enter_to labels.enter_other labels.link_step labels.link labels.started
+    without_lemmas then labels.target_of labels.aim labels.entered labels.link_step labels.link labels.started
     labels.at_lemmas lemma_lines from_lemmas reading
     exclusion.exclusion exclusion.excluding numbering.helpers_for numbering.pairs_below numbering.helpers numbering.item numbering.turn
     numbering.helper numbering.difference table.action_of table.process table.action table.own_below table.first_of table.lemma

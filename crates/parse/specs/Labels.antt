@@ -34,19 +34,15 @@ abbrev pub with_other : Program → ℕ → ℕ → Program
 with_other P k i = record P { other = set P.other k i }
 
 -- the label is a step, which is entered, or the step's line is refused
-unfoldable pub enter_to : Program → ℕ → ℕ → Result ℕ Fault → Result Program Refusal
-enter_to P k place (Ok i) = Ok (with_to P k i)
-enter_to P k place (Err fault) = refuse fault place
-
-unfoldable pub enter_other : Program → ℕ → ℕ → Result ℕ Fault → Result Program Refusal
-enter_other P k place (Ok i) = Ok (with_other P k i)
-enter_other P k place (Err fault) = refuse fault place
+unfoldable pub entered : (ℕ → Program) → ℕ → Result ℕ Fault → Result Program Refusal
+entered with place (Ok i) = Ok (with i)
+entered with place (Err fault) = refuse fault place
 
 -- 'L before M', and M of an if only
 unfoldable pub link_step : Draft → ℕ → Program → Result Program Refusal
 link_step d k P =
-    then (enter_to P k (num d.line k) (aim d d.to k)) λ Q.
-    cond (has_other (num d.program.kind k)) (enter_other Q k (num d.line k) (aim d d.other k)) (Ok Q)
+    then (entered (with_to P k) (num d.line k) (aim d d.to k)) λ Q.
+    cond (has_other (num d.program.kind k)) (entered (with_other Q k) (num d.line k) (aim d d.other k)) (Ok Q)
 
 -- 'step by step': the first k
 unfoldable pub link : Draft → ℕ → Result Program Refusal

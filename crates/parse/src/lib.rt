@@ -7,16 +7,19 @@ ghost use Rattle.job.specs.Answers.{answer_of};
 ghost use Rattle.job.specs.Limits.{max_steps, max_lemmas, max_names, max_text};
 ghost use Rattle.job.specs.Fitness.{both_critical};
 ghost use Rattle.job.specs.Table.{first_of};
-ghost use Rattle.scan.specs.Lines.{row, lines};
+ghost use Rattle.scan.specs.Lines.{lines};
+ghost use Rattle.scan.specs.Iterating.{row_of};
 ghost use Rattle.program.specs.Program.{program_of};
 ghost use Rattle.parse.specs.Answers.{forgotten, table_of, without_lemmas};
-ghost use Rattle.parse.specs.Labels.{aim as aim_of, enter_to, enter_other, link_step, link as link_all, at_lemmas};
+ghost use Rattle.parse.specs.Labels.{aim as aim_of, link_step, link as link_all, at_lemmas};
 ghost use Rattle.parse.specs.Lemmas.{signed as signed_item, words, lemma, lemma_line, lemma_lines};
 ghost use Rattle.parse.specs.Reading.{from_lemmas, reading, read_job};
 
 use fields::Cursor;
-use job::{Fault, Job, Kind, Program, Refusal, Word};
-use program::{Draft, ProgramPart};
+use items::Names;
+use job::{Fault, Job, Kind, Process, Program, Refusal, Word};
+use program::{Draft, ProgramPart, at_line};
+use scan::{Line, Lines};
 
 #[tactic(auto, unfolding(crate::specs::Answers::without_lemmas))]
 fn without_lemmas(draft: &Draft, program: Program) -> Job
@@ -51,50 +54,18 @@ fn aim(draft: &Draft, names: &[u8; 4 * Job::STEPS], k: usize) -> Result<usize, F
     }
 }
 
-// L of step k is entered.
-#[tactic(auto, unfolding(crate::specs::Labels::enter_to))]
-fn link_to(draft: &Draft, program: Program, k: usize) -> Result<Program, Refusal>
-    requires few { draft.now.program.steps ≤ max_steps }
-    requires step { k < max_steps }
-    ensures { result ≡ enter_to program k (num draft.now.line k) (aim_of draft.now draft.now.to k) }
-{
-    match aim(draft, &draft.to, k) {
-        Ok(i) => {
-            let mut linked = program;
-            linked.to[k] = i as u16;
-            Ok(linked)
-        }
-        Err(fault) => Err(fault.at(draft.line[k])),
-    }
-}
-
-// M of step k is entered.
-#[tactic(auto, unfolding(crate::specs::Labels::enter_other))]
-fn link_other(draft: &Draft, program: Program, k: usize) -> Result<Program, Refusal>
-    requires few { draft.now.program.steps ≤ max_steps }
-    requires step { k < max_steps }
-    ensures { result ≡ enter_other program k (num draft.now.line k) (aim_of draft.now draft.now.other k) }
-{
-    match aim(draft, &draft.other, k) {
-        Ok(i) => {
-            let mut linked = program;
-            linked.other[k] = i as u16;
-            Ok(linked)
-        }
-        Err(fault) => Err(fault.at(draft.line[k])),
-    }
-}
-
 // L and then, of an if, M of step k.
-#[tactic(auto, unfolding(crate::specs::Labels::link_step, crate::specs::Answers::then))]
+#[tactic(auto, unfolding(crate::specs::Labels::link_step, crate::specs::Labels::entered, crate::specs::Answers::then))]
 fn link_step(draft: &Draft, program: Program, k: usize) -> Result<Program, Refusal>
     requires few { draft.now.program.steps ≤ max_steps }
     requires step { k < max_steps }
     ensures { result ≡ link_step draft.now k program }
 {
-    let linked = link_to(draft, program, k)?;
+    let line = draft.line[k];
+    let mut linked = program;
+    linked.to[k] = at_line(aim(draft, &draft.to, k), line)? as u16;
     if draft.program.kind[k] == Kind::If as u8 {
-        return link_other(draft, linked, k);
+        linked.other[k] = at_line(aim(draft, &draft.other, k), line)? as u16;
     }
     Ok(linked)
 }
@@ -111,37 +82,20 @@ fn link(draft: &Draft) -> Result<Program, Refusal>
     Ok(program)
 }
 
-// Both first steps, a and b, critical, which only a word forbids.
-#[tactic(auto, unfolding(job::specs::Fitness::both_critical))]
-fn both_critical(program: &Program, a: usize, b: usize) -> bool
-    requires of_a { a ≡ first_of program.now 1 }
-    requires of_b { b ≡ first_of program.now 2 }
-    requires steps { (a < max_steps) × (b < max_steps) }
-    ensures { result ≡ both_critical program.now }
-{
-    let kind = program.kind;
-    Word::Start as u8 <= program.word
-        && kind[a] == Kind::Critical as u8
-        && kind[b] == Kind::Critical as u8
-}
-
 // What is checked at line n, `lemmas`.
 #[tactic(auto, unfolding(crate::specs::Labels::at_lemmas, crate::specs::Labels::started, crate::specs::Answers::then))]
 fn at_lemmas(draft: &Draft, n: usize) -> Result<Job, Refusal>
     requires { draft.now.program.steps ≤ max_steps }
     ensures { result ≡ at_lemmas draft.now n }
 {
-    let steps = draft.program.steps;
-    let a = draft.program.first_of(1);
-    if steps <= a {
+    if draft.program.first_of(Process::A as u8).is_none() {
         return Err(Fault::NoStepOfA.at(n));
     }
-    let b = draft.program.first_of(2);
-    if steps <= b {
+    if draft.program.first_of(Process::B as u8).is_none() {
         return Err(Fault::NoStepOfB.at(n));
     }
     let program = link(draft)?;
-    if both_critical(&draft.program, a, b) {
+    if draft.program.both_critical() {
         return Err(Fault::BothCritical.at(n));
     }
     Ok(without_lemmas(draft, program))
@@ -200,7 +154,7 @@ fn lemma_of(start: Job, s: &[u8], n: usize) -> Result<Job, Refusal>
             line: n,
             column: bare_at(s, at),
         };
-        let Some(i) = items::read_item(&job, s, &mut cursor) else {
+        let Some(i) = items::read_item(&Names::from(&job), s, &mut cursor) else {
             return Err(Fault::NameUnknown.at(n));
         };
         job.items[job.lemmas * Job::NAMES + k] = signed(s[at] == b'~', i);
@@ -212,18 +166,16 @@ fn lemma_of(start: Job, s: &[u8], n: usize) -> Result<Job, Refusal>
 
 // Line n behind `lemmas`, whose LF is there or not.
 #[tactic(auto, unfolding(crate::specs::Lemmas::lemma_line, crate::specs::Lemmas::whole))]
-fn lemma_line(job: Job, s: &[u8], ended: bool, n: usize) -> Result<Job, Refusal>
+fn lemma_line(job: Job, line: Line, n: usize) -> Result<Job, Refusal>
     requires steps { job.program.steps ≤ max_steps }
     requires variables { job.program.variables ≤ max_steps }
-    ensures { result ≡ lemma_line job (row s.now ended) n }
+    ensures { result ≡ lemma_line job (row_of line.entry) n }
 {
-    if let Err(fault) = fields::line(s, ended) {
-        return Err(fault.at(n));
-    }
+    at_line(fields::line(line.bytes, line.ended), n)?;
     if Job::LEMMAS <= job.lemmas {
         return Err(Fault::ManyLemmas.at(n));
     }
-    lemma_of(job, s, n)
+    lemma_of(job, line.bytes, n)
 }
 
 // The lemma lines, which begin at from, behind before lines.
@@ -234,15 +186,9 @@ fn lemma_lines(text: &[u8], from: usize, before: usize, start: Job) -> Result<Jo
     requires variables { start.program.variables ≤ max_steps }
     ensures { result ≡ lemma_lines start before (lines (drop from text.now)) }
 {
-    let mut at = from;
-    let mut n = before;
     let mut job = start;
-    // A while loop: a line's length is found as it is read.
-    while at < text.len() {
-        let end = scan::end_of(text, at, b'\n');
-        job = lemma_line(job, &text[at..end], end < text.len(), n + 1)?;
-        at = end + 1;
-        n += 1;
+    for (i, line) in Lines::new(scan::rest(text, from)).enumerate() {
+        job = lemma_line(job, line, before + i + 1)?;
     }
     Ok(job)
 }
@@ -272,9 +218,6 @@ pub fn read(text: &[u8]) -> Result<Job, Refusal>
 pub fn table_of(read: &Result<Job, Refusal>) -> Job
     ensures { result ≡ table_of read.now }
 {
-    if let Ok(job) = read {
-        return *job;
-    }
-    let draft = Draft::blank(0, Word::Free);
-    without_lemmas(&draft, draft.program)
+    let draft = Draft::blank(0, Word::Free as u8);
+    read.unwrap_or(without_lemmas(&draft, draft.program))
 }

@@ -1,7 +1,9 @@
 -- A reading as C lays it out: acceptance, with number and place 0, or number and place of a refusal; and the table, flat.
-use Rattle.std.specs.Prelude.{Bool, true, false, ℕ}
+use Rattle.std.specs.Prelude.{◌≡◌, Bool, true, false, ℕ, Result}
 use Rattle.job.specs.declared.Job.{Job}
-use Rattle.job.specs.Answers.{Answer, gives, refuses}
+use Rattle.job.specs.declared.refusal.Refusal.{Refusal}
+use Rattle.job.specs.Answers.{Answer, gives, refuses, answer_of}
+use Rattle.parse.specs.Answers.{forgotten, table_of}
 use Rattle.parse.specs.Reading.{Outcome}
 use Rattle.parse_ffi.specs.declared.Answer.{Answer as AnswerInC}
 
@@ -33,3 +35,10 @@ answered (refuses number place) j = flat false number place j
 
 abbrev pub in_c : Outcome → AnswerInC
 in_c o = answered o.answer o.table
+
+-- what C is given of an accepted table, and of a reading
+abbrev pub IsFlat : Job → AnswerInC → Type 0
+IsFlat j answer = answer ≡ flat true 0 0 j
+
+abbrev pub IsInC : Result Job Refusal → AnswerInC → Type 0
+IsInC read answer = answer ≡ in_c (record { answer = forgotten (answer_of read); table = table_of read })

@@ -3,9 +3,9 @@
 
 ghost use Rattle.std.specs.Prelude.{◌≡◌};
 ghost use Rattle.parse.specs.Reading.{read_job};
-ghost use Rattle.parse_ffi.specs.Foreign.{flat as flat_of, in_c};
+ghost use Rattle.parse_ffi.specs.Foreign.{in_c};
 
-use job::Job;
+use job::{Job, Program, Refusal};
 
 // A reading as C lays it out: acceptance, with number and place 0, or the number and place of a refusal; and the table.
 #[repr(C)]
@@ -31,39 +31,69 @@ pub struct Answer {
     pub items: [i16; Job::LEMMAS * Job::NAMES],
 }
 
-fn flat(accepted: bool, number: u8, place: usize, j: Job) -> Answer
-    ensures { result ≡ flat_of accepted number place j }
-{
-    let p = j.program;
-    let process = p.process;
-    let kind = p.kind;
-    let to = p.to;
-    let other = p.other;
-    let variable = p.variable;
-    let value = p.value;
-    let labels = j.labels;
-    let names = j.names;
-    let lengths = j.lengths;
-    let items = j.items;
-    Answer {
-        accepted,
-        number,
-        place,
-        bound: p.bound,
-        word: p.word,
-        steps: p.steps,
-        variables: p.variables,
-        process,
-        kind,
-        to,
-        other,
-        variable,
-        value,
-        labels,
-        names,
-        lemmas: j.lemmas,
-        lengths,
-        items,
+// The table of an accepted job.
+impl From<Job> for Answer {
+    ghost use Rattle.parse_ffi.specs.Foreign.{IsFlat};
+
+    ghost from_gives = { IsFlat };
+
+    fn from(table: Job) -> Answer {
+        let p = table.program;
+        let Program {
+            process,
+            kind,
+            to,
+            other,
+            variable,
+            value,
+            ..
+        } = p;
+        let Job {
+            labels,
+            names,
+            lengths,
+            items,
+            ..
+        } = table;
+        Answer {
+            accepted: true,
+            number: 0,
+            place: 0,
+            bound: p.bound,
+            word: p.word,
+            steps: p.steps,
+            variables: p.variables,
+            process,
+            kind,
+            to,
+            other,
+            variable,
+            value,
+            labels,
+            names,
+            lemmas: table.lemmas,
+            lengths,
+            items,
+        }
+    }
+}
+
+impl From<Result<Job, Refusal>> for Answer {
+    ghost use Rattle.parse_ffi.specs.Foreign.{IsInC};
+
+    ghost from_gives = { IsInC };
+
+    fn from(read: Result<Job, Refusal>) -> Answer {
+        let flat = Answer::from(parse::table_of(&read));
+        match read {
+            Ok(_) => flat,
+            Err(refusal) => Answer {
+                accepted: false,
+                number: refusal.fault.number(),
+                place: refusal.place,
+                ..flat
+            },
+        }
     }
 }
 
@@ -71,10 +101,5 @@ fn flat(accepted: bool, number: u8, place: usize, j: Job) -> Answer
 pub extern "C" fn read_job(text: &[u8]) -> Answer
     ensures { result ≡ in_c (read_job text.now) }
 {
-    let read = parse::read(text);
-    let table = parse::table_of(&read);
-    match read {
-        Ok(_) => flat(true, 0, 0, table),
-        Err(refusal) => flat(false, refusal.fault.number(), refusal.place, table),
-    }
+    parse::read(text).into()
 }

@@ -19,6 +19,11 @@ use Rattle.program.specs.declared.ProgramPart.{ProgramPart}
 abbrev pub reached : ℕ → ℕ → Draft → ProgramPart
 reached n at d = record { draft = d; line = n; at = at }
 
+-- what is read of line n, or its fault there
+abbrev pub placed : {T : Type 0} → ℕ → Result T Fault → Result T Refusal
+placed n (Ok x) = Ok x
+placed n (Err fault) = Err (refusal_at fault n)
+
 -- after line n, before which the draft was d: more lines, or the end of the program part
 unfoldable pub follow : Result (Option Draft) Fault → Draft → ℕ → ℕ → (Draft → Result ProgramPart Refusal) → Result ProgramPart Refusal
 follow (Ok (Some e)) d n at more = more e

@@ -3,16 +3,17 @@
 
 ghost use Rattle.std.specs.Prelude.{◌≡◌, ◌+◌, ◌<◌, ◌≤◌, length, drop};
 ghost use Rattle.job.specs.Limits.{max_steps, max_text};
-ghost use Rattle.scan.specs.Lines.{row, lines};
-ghost use Rattle.lines.specs.FirstLine.{code_of};
+ghost use Rattle.scan.specs.Lines.{lines, size};
+ghost use Rattle.scan.specs.Iterating.{row_of, lines_left};
 ghost use Rattle.program.specs.Draft.{put4, blank as blank_draft, mention as mention_word, process_of, enter as enter_step, add_step};
 ghost use Rattle.program.specs.ProgramLine.{is_lemmas, is_comment, program_line, line_of};
-ghost use Rattle.program.specs.Program.{program as program_from, from_line1, program_of};
+ghost use Rattle.program.specs.Program.{placed, program as program_from, from_line1, program_of};
 
 use fields::Cursor;
-use job::{Fault, Job, Kind, Program, Refusal, Word};
+use job::{Fault, Job, Kind, Process, Program, Refusal};
 use lines::Step;
 use lists::get_or;
+use scan::{Line, Lines};
 
 // The table while its program is read. Labels L and M stay names, and each step keeps its line, until `lemmas`.
 #[derive(Clone, Copy)]
@@ -48,19 +49,20 @@ fn put(names: &mut [u8; 4 * Job::STEPS], k: usize, word: &[u8])
 fn process_of(b: u8) -> u8
     ensures { result ≡ process_of b }
 {
-    if b == b'A' { 1 } else { 2 }
+    let process = if b == b'A' { Process::A } else { Process::B };
+    process as u8
 }
 
 impl Draft {
     // The draft of no steps.
     #[tactic(auto, unfolding(crate::specs::Draft::blank))]
-    pub fn blank(bound: usize, word: Word) -> Draft
-        ensures { result ≡ blank_draft bound (code_of word) }
+    pub fn blank(bound: usize, word: u8) -> Draft
+        ensures { result ≡ blank_draft bound word }
     {
         Draft {
             program: Program {
                 bound,
-                word: word as u8,
+                word,
                 steps: 0,
                 variables: 0,
                 process: [0; Job::STEPS],
@@ -121,25 +123,25 @@ impl Draft {
         requires room { self.old.program.steps < max_steps }
         ensures { self.new ≡ add_step self.old s.now step n }
     {
-        if Kind::Assign as u8 <= step.kind as u8 {
+        if matches!(step.kind, Kind::Assign | Kind::If) {
             self.mention(scan::part(s, step.variable, step.equals));
         }
         self.enter(s, step, n);
     }
 }
 
-#[tactic(auto, unfolding(crate::specs::ProgramLine::is_lemmas))]
+#[tactic(auto, unfolding(crate::specs::ProgramLine::is_lemmas, lists::specs::Pieces::is), using(lists::proofs::PieceLaws::is_equal))]
 pub fn is_lemmas(s: &[u8]) -> bool
     ensures { result ≡ is_lemmas s.now }
 {
-    s.len() == 6 && scan::follows(s, 0, b"lemmas")
+    s == b"lemmas".as_slice()
 }
 
-#[tactic(auto, unfolding(crate::specs::ProgramLine::is_comment))]
+#[tactic(auto, unfolding(crate::specs::ProgramLine::is_comment), using(lists::proofs::PieceLaws::starts_is))]
 pub fn is_comment(s: &[u8]) -> bool
     ensures { result ≡ is_comment s.now }
 {
-    scan::follows(s, 0, b"~")
+    s.starts_with(b"~")
 }
 
 // Line n, which has passed 2, 3, 4: the draft that the next line goes on with, or none at `lemmas`.
@@ -165,39 +167,40 @@ fn program_line(draft: Draft, s: &[u8], n: usize) -> Result<Option<Draft>, Fault
     Ok(Some(more))
 }
 
+// What is read of line n, or the refusal of its fault there.
+pub fn at_line<T>(read: Result<T, Fault>, n: usize) -> Result<T, Refusal>
+    ensures { result ≡ placed n read }
+{
+    read.map_err(|fault| fault.at(n))
+}
+
 // Line n, whose LF is there or not.
 #[tactic(auto, unfolding(crate::specs::ProgramLine::whole))]
-fn line_of(draft: Draft, s: &[u8], ended: bool, n: usize) -> Result<Option<Draft>, Fault>
+fn line_of(draft: Draft, line: Line, n: usize) -> Result<Option<Draft>, Fault>
     requires within { draft.program.variables ≤ draft.program.steps }
     requires few { draft.program.steps ≤ max_steps }
-    ensures { result ≡ line_of draft (row s.now ended) n }
+    ensures { result ≡ line_of draft (row_of line.entry) n }
 {
-    fields::line(s, ended)?;
-    program_line(draft, s, n)
+    fields::line(line.bytes, line.ended)?;
+    program_line(draft, line.bytes, n)
 }
 
 // The program lines after line 1, which begin at from.
-fn program_lines(text: &[u8], from: usize, start: Draft) -> Result<ProgramPart, Refusal>
+fn program_lines(lines: Lines, from: usize, start: Draft) -> Result<ProgramPart, Refusal>
     requires first { 1 ≤ from }
-    requires size { length text.now ≤ max_text }
-    requires inside { from ≤ max_text + 1 }
+    requires size { from + size (lines_left lines) ≤ max_text + 1 }
     requires within { start.program.variables ≤ start.program.steps }
     requires few { start.program.steps ≤ max_steps }
-    ensures { result ≡ program_from start from 1 (lines (drop from text.now)) }
+    ensures { result ≡ program_from start from 1 (lines_left lines.entry) }
 {
-    let mut at = from;
-    let mut n: usize = 1;
     let mut draft = start;
-    // A while loop: a line's length is found as it is read.
-    while at < text.len() {
-        let end = scan::end_of(text, at, b'\n');
+    let mut n: usize = 1;
+    let mut at = from;
+    // Counted here, not by `enumerate`: behind the last line the refusal tells the number too, and `at` is where the lemma lines begin.
+    for line in lines {
         n += 1;
-        let next = match line_of(draft, &text[at..end], end < text.len(), n) {
-            Ok(next) => next,
-            Err(fault) => return Err(fault.at(n)),
-        };
-        at = end + 1;
-        let Some(more) = next else {
+        at += line.bytes.len() + 1;
+        let Some(more) = at_line(line_of(draft, line, n), n)? else {
             return Ok(ProgramPart { draft, line: n, at });
         };
         draft = more;
@@ -207,19 +210,18 @@ fn program_lines(text: &[u8], from: usize, start: Draft) -> Result<ProgramPart, 
 
 // Line 1 and the lines behind it.
 fn from_line_1(text: &[u8]) -> Result<ProgramPart, Refusal>
-    requires some { 1 ≤ length text.now }
     requires size { length text.now ≤ max_text }
     ensures { result ≡ from_line1 (lines text.now) }
 {
-    let end = scan::end_of(text, 0, b'\n');
-    let line = &text[..end];
-    if let Err(fault) = fields::line(line, end < text.len()) {
-        return Err(fault.at(1));
-    }
-    match lines::first_line(line, Cursor { line: 1, column: 0 }) {
-        Ok(first) => program_lines(text, end + 1, Draft::blank(first.bound, first.word)),
-        Err(fault) => Err(fault.at(1)),
-    }
+    let mut lines = Lines::new(text);
+    let Some(line) = lines.next() else {
+        return Err(Fault::TextSize.into());
+    };
+    at_line(fields::line(line.bytes, line.ended), 1)?;
+    let at = Cursor { line: 1, column: 0 };
+    let first = at_line(lines::first_line(line.bytes, at), 1)?;
+    let draft = Draft::blank(first.bound, first.word as u8);
+    program_lines(lines, line.bytes.len() + 1, draft)
 }
 
 // The program part of a text.

@@ -68,6 +68,14 @@ pub put_fits : {old new : Page} {part : List ℕ} → Adds old new part → old.
     → Puts (length part) old new part
 put_fits a h = put_within a (omega arith) h
 
+-- where there is none, nothing is
+pub put_without : {old new : Page} {part : List ℕ} → Adds old new part → length old.out.now < old.end + length part
+    → (new.end ≡ old.end) × (new.out.now ≡ old.out.now)
+unfolding placed put
+put_without {old = old} {part = part} a h =
+    let t = lt-leb (old.end + length part) (length old.out.now) h in
+    (a.end ∙ rw t, a.out ∙ rw t)
+
 -- ---- one behind the other
 
 pub put_none : (old : Page) → Puts 0 old old []

@@ -12,6 +12,10 @@ module _ (old : List ℕ) (at : ℕ) (part : List ℕ) where
   unfoldable pub put : List ℕ
   put = cond (leb (at + length part) (length old)) (write old at part) old
 
+-- so many bytes more go onto the page
+abbrev pub HasRoom : Page → ℕ → Type 0
+HasRoom page n = page.end + n ≤ length page.out.now
+
 -- a part is put behind what stands in the buffer
 pub record Adds (old new : Page) (part : List ℕ) : Type 0 where
   pub same_reference : new.out.ghost_name ≡ old.out.ghost_name

@@ -61,12 +61,12 @@ fn word_at(line: &[u8], at: usize) -> FirstWord
     tokens::first_word(&line[at..])
 }
 
-// A text, the place in it and the number of the line there.
+// A text, the place in it and the number of the line there. Only `new` makes one, of any text.
 #[derive(Clone, Copy)]
 pub struct Reader<'a> {
-    pub text: &'a [u8],
-    pub at: usize,
-    pub line: usize,
+    text: &'a [u8],
+    at: usize,
+    line: usize,
     ghost within: { at ≤ length text.now },
 
     // A line that is passed has at least its LF.

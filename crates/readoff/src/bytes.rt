@@ -8,7 +8,10 @@ ghost use Rattle.readoff.specs.ReadingOff.{run_length};
 ghost use Rattle.readoff.specs.Standing.{number};
 
 use super::Values;
+use super::rows::put_bits;
 use super::standing::last_step;
+use job::Process;
+use lists::get_or;
 use states::times;
 
 // A step's number in a run, 0 of none.
@@ -23,16 +26,17 @@ fn number(step: Option<usize>) -> u8
 }
 
 impl Values<'_> {
-    // The turn of time t: 1 A, 2 B, 0 last.
+    // Whose turn it is at time t, by the process's number; 0 last.
+    #[tactic(auto, unfolding(job::specs::ReadOff::turn_byte, job::specs::Numbering::turn), using(crate::proofs::ReadingLaws::turn_read))]
     fn turn_byte(&self, t: usize) -> u8
         ensures { result ≡ turn_byte self.now.fit.now.job.program (run_read self.now.fit.now.job.program self.now.bytes.now) t }
     {
         if self.fit.job.program.bound <= t {
             0
         } else if self.bytes[self.turns() + t] == 1 {
-            1
+            Process::A as u8
         } else {
-            2
+            Process::B as u8
         }
     }
 
@@ -46,9 +50,8 @@ impl Values<'_> {
         let items = self.items(t);
         part[0] = number(last_step(p, items, true, p.steps));
         part[1] = number(last_step(p, items, false, p.steps));
-        for x in 0..p.variables {
-            part[2 + x] = u8::from(items[p.steps + x] == 1);
-        }
+        let (_, bits) = items.split_at(p.steps);
+        put_bits(&mut part[2..2 + p.variables], |x| get_or(bits, x, 0) == 1);
         part[2 + p.variables] = self.turn_byte(t);
     }
 

@@ -2,8 +2,9 @@
 #![tactic(auto)]
 
 mod bytes; // bytes.rt: the run's bytes, group by group
+mod fault; // fault.rt: 67 and its place
+mod rows; // rows.rt: a row of bits as bytes
 mod standing; // standing.rt: where a process stands at a time
-mod test; // test.rt: 67 and its place
 
 ghost use Rattle.std.specs.Prelude.{◌≡◌, suc, ◌+◌, ◌*◌, ◌≤◌, ◌<◌, length, IfSome, IsNone};
 ghost use Rattle.job.specs.Answers.{answer_of};
@@ -14,6 +15,7 @@ ghost use Rattle.readoff.specs.Standing.{items_in};
 
 use fit::FitJob;
 use job::{Fault, Job, Refusal};
+pub use rows::put_bits;
 use states::times;
 
 // Values of a job's variables, and maybe more behind them.

@@ -1,7 +1,6 @@
 -- Laws of the working buffer: marks turned into values, one byte after the other.
 use mathlib.Core.Path.{◌≡◌, sym, ap, ◌∙◌}
-use Rattle.std.proofs.Common.{Some}
-use borrow.Author.Tests.{eq-eqb, ne_eqb, lt-ltb}
+use borrow.Author.Tests.{eq-eqb, ne_eqb}
 use lib.Dec.{eqb}
 use mathlib.Core.List.{List}
 use Prim.Native.Nat.{ℕ, ◌+◌, ◌<◌}
@@ -10,7 +9,7 @@ use Rattle.lists.specs.Rows.{num}
 use Rattle.lists.proofs.WritingLaws.{front_put, front_keep, front_next}
 use Rattle.lists.proofs.PlaceLaws.{first_none, first_found}
 use Rattle.reply.specs.Reply.{truth, missing}
-use Rattle.reply.specs.Answers.{gap, cleaned}
+use Rattle.reply.specs.Answers.{cleaned}
 
 -- the first i marks of w₀ are turned, and w is what the buffer holds then
 
@@ -34,8 +33,3 @@ module _ (w₀ w : List ℕ) (i : ℕ) (h : i < length w₀) (row : w ≡ cleane
 
   pub one_missing : (n : ℕ) → i < n → missing i (num w₀) ≡ i → num w i ≡ 0 → i ≡ missing n (num w₀)
   one_missing n l e k = sym (first_found (λ x. eqb (num w₀ x) 0) i n e (eq-eqb (num w₀ i) 0 (sym same_mark ∙ k)) l)
-
--- ---- whether one is missing
-
-pub gap_found : (w : List ℕ) (n i : ℕ) → i < n → i ≡ missing n (num w) → Some i ≡ gap n (missing n (num w))
-gap_found w n i l e = rw (← e, lt-ltb i n l)

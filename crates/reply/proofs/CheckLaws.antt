@@ -1,8 +1,8 @@
 -- The answer to a reply: one law for each way out of the open call.
-use mathlib.Core.Path.{◌≡◌, sym, ap, ◌∙◌}
-use mathlib.Core.Bool.{true, false, cond}
+use mathlib.Core.Path.{◌≡◌, refl, sym, ap, ◌∙◌}
+use mathlib.Core.Bool.{Bool, true, false, cond}
 use mathlib.Core.List.{List, [], ◌++◌}
-use Rattle.std.proofs.Common.{Result, Ok, Err, append-nil, length-take-le}
+use Rattle.std.proofs.Common.{Result, Ok, Err, Option, Some, None, append-nil, length-take-le}
 use Rattle.lists.specs.Rows.{tab}
 use Prim.Native.Nat.{ℕ, ◌≤◌, ◌<◌}
 use native.Mathlib.Omega.{arith}
@@ -20,23 +20,36 @@ use Rattle.fit.specs.declared.FitJob.{FitJob}
 use Rattle.totals.specs.declared.Header.{Header}
 use Rattle.totals.specs.Totals.{header_of}
 use Rattle.job.specs.Satisfaction.{false_clause}
-use Rattle.cnf.specs.Evaluation.{evaluation}
+use Rattle.cnf.specs.Evaluation.{first_false, evaluation}
 use Rattle.reply.specs.Reply.{Read, refusal, values, values_read}
-use Rattle.reply.specs.Check.{accepted, refused, max_reply, weighed, checked}
+use Rattle.reply.specs.Check.{Outcome, accepted, refused, max_reply, judged, weighed, checked}
 use Rattle.reply.specs.Answers.{outcome, settled}
 
 -- ---- the evaluation of a fit table's clauses
 
-module _ (J : Job) (h : fit J ≡ true) (vs : List ℕ) (e : Result ℕ Refusal) (is : answer_of e ≡ evaluation J vs) where
-  fit_evaluation : gives (false_clause J vs) ≡ answer_of e
+module _ (J : Job) (h : fit J ≡ true) (vs : List ℕ) (e : Result (Option ℕ) Refusal) (is : answer_of e ≡ evaluation J vs) where
+  fit_evaluation : gives (first_false J vs) ≡ answer_of e
   unfolding evaluation
   fit_evaluation = sym (is ∙ rw h)
 
-  first_false : (f : ℕ) → e ≡ Ok f → f ≡ false_clause J vs
-  first_false f k = let q = fit_evaluation ∙ ap answer_of k in cc
+  is_first_false : (f : Option ℕ) → e ≡ Ok f → f ≡ first_false J vs
+  is_first_false f k = let q = fit_evaluation ∙ ap answer_of k in cc
 
   pub not_unfit : (r : Refusal) → e ≡ Err r → ⊥
   not_unfit r k = let q = fit_evaluation ∙ ap answer_of k in let z : ◌≡◌ {A = ℕ} 0 1 = cc in omega arith
+
+-- what the first false clause decides
+abbrev judged_by : Option ℕ → List ℕ → Outcome
+judged_by None buffer = accepted buffer
+judged_by (Some k) buffer = refused 65 k buffer
+
+is_judgement : (J : Job) (vs buffer : List ℕ) → judged_by (first_false J vs) buffer ≡ judged J vs buffer
+is_judgement J vs buffer = go (ltb (length (clauses J)) (false_clause J vs))
+  where
+    go : (b : Bool) → judged_by (cond b None (Some (false_clause J vs))) buffer
+        ≡ cond b (accepted buffer) (refused 65 (false_clause J vs) buffer)
+    go true = refl
+    go false = refl
 
 -- ---- the order of the numbers
 
@@ -49,9 +62,6 @@ module _ (J : Job) (reply work : List ℕ) where
     abbrev n : ℕ
     n = header.variables
 
-    abbrev c : ℕ
-    c = header.clauses
-
     pub h : fit J ≡ true
     h = rw same at F.fits
 
@@ -60,9 +70,6 @@ module _ (J : Job) (reply work : List ℕ) where
 
     e : n ≡ total J.program
     e = ap (λ (a : Header). a.variables) is_header
-
-    count : c ≡ length (clauses J)
-    count = ap (λ (a : Header). a.clauses) is_header
 
     pub is_51 : length work < n → refused 51 0 work ≡ checked J reply work
     unfolding checked
@@ -101,24 +108,21 @@ module _ (J : Job) (reply work : List ℕ) where
                 rw (b, c', i', ← e)
             go (values vs) q = let z : ◌≡◌ {A = ℕ} 0 1 = cc in absurd (omega arith)
 
-        module _ (x : T) (p : r ≡ Ok x) (v : Result ℕ Refusal) (is : answer_of v ≡ evaluation J w) (f : ℕ) (found : v ≡ Ok f) where
-          first : f ≡ false_clause J w
-          first = first_false J h w v is f found
-
-          is_judged : cond (ltb c f) (accepted (w ++ drop n work)) (refused 65 f (w ++ drop n work)) ≡ checked J reply work
+        module _ (x : T) (p : r ≡ Ok x) (v : Result (Option ℕ) Refusal) (is : answer_of v ≡ evaluation J w) (f : Option ℕ)
+            (found : v ≡ Ok f) where
+          is_judged : judged_by f (w ++ drop n work) ≡ checked J reply work
           is_judged = go (values_read n reply) (rw p at read) ∙ is_weighed
             where
-              go : (R : Read) → accepted w ≡ settled n (take n work) R
-                  → cond (ltb c f) (accepted (w ++ drop n work)) (refused 65 f (w ++ drop n work)) ≡ weighed J work R
+              go : (R : Read) → accepted w ≡ settled n (take n work) R → judged_by f (w ++ drop n work) ≡ weighed J work R
               go (refusal d i) q = let z : ◌≡◌ {A = ℕ} 0 1 = cc in absurd (omega arith)
               go (values vs) q =
                   let b₀ : w ≡ vs ++ drop n (take n work) = cc in
                   let b : w ≡ vs = b₀ ∙ ap (λ rest. vs ++ rest) nothing ∙ append-nil vs in
-                  let g : f ≡ false_clause J vs = first ∙ ap (false_clause J) b in
-                  rw (count, g, b, ← e)
+                  let g : f ≡ first_false J vs = is_first_false J h w v is f found ∙ ap (first_false J) b in
+                  rw (g, b, ← e) (is_judgement J vs (vs ++ drop n work))
 
-          pub is_accepted_lem : c < f → accepted (w ++ drop n work) ≡ checked J reply work
-          is_accepted_lem t = rw (lt-ltb c f t) at is_judged
+          pub is_accepted_lem : f ≡ None → accepted (w ++ drop n work) ≡ checked J reply work
+          is_accepted_lem t = rw t at is_judged
 
-          pub is_65 : f ≤ c → refused 65 f (w ++ drop n work) ≡ checked J reply work
-          is_65 t = rw (le-ltb c f t) at is_judged
+          pub is_65 : (k : ℕ) → f ≡ Some k → refused 65 k (w ++ drop n work) ≡ checked J reply work
+          is_65 k t = rw t at is_judged

@@ -5,7 +5,7 @@ use Rattle.std.proofs.Common.{List, [], ◌∷◌, length, drop, set, arith}
 use mathlib.Core.Bool.{false≢true}
 use borrow.Author.Tests.{eq-eqb, ne_eqb, lt-ltb, le-ltb}
 use Rattle.std.specs.Int.{from_bool}
-use Rattle.std.specs.Result.{IsErr, IsErrAnd}
+use Rattle.std.specs.Result.{IsErr, IsErrAnd, MatchResult}
 use Rattle.lists.specs.Rows.{num}
 use Rattle.lists.specs.Pieces.{Pieces, last, piece, cut, starts, is}
 use Rattle.lists.proofs.PieceLaws.{starts_length}
@@ -306,3 +306,15 @@ module _ (k k' : ℕ) (ps rest : Pieces) (p : List ℕ) (e : Bool) (parts : ps �
 
     pub values_more : e ≡ true → r ≡ Ok More → value_lines_in marks N k m ps ≡ value_lines_in marks N k' m' rest
     values_more t h = sym (rw h at (a_line t))
+
+-- ---- a result whose error was made into another
+
+module _ {T E D : Type 0} (P : E → D → Type 0) where
+  pub mapped_ok : (r : Result T E) (s : Result T D) → MatchResult r (λ x. s ≡ Ok x) (λ e. IsErrAnd s (P e)) → (x : T) → s ≡ Ok x → r ≡ Ok x
+  mapped_ok (Ok y) s m x h = cc
+  mapped_ok (Err e) s m x h = absurd (rw h at m)
+
+  pub mapped_err : (r : Result T E) (s : Result T D) → MatchResult r (λ x. s ≡ Ok x) (λ e. IsErrAnd s (P e)) → (d : D) → s ≡ Err d
+      → (e : E) × ((r ≡ Err e) × P e d)
+  mapped_err (Ok y) s m d h = absurd (cc)
+  mapped_err (Err e) s m d h = (e, (refl, rw h at m))

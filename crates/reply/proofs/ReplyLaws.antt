@@ -6,14 +6,15 @@ use mathlib.Core.List.{List, [], ◌++◌}
 use Prim.Native.Nat.{ℕ, suc, ◌+◌, ◌-◌, ◌≤◌, ◌<◌}
 use native.Mathlib.Omega.{arith}
 use native.Mathlib.Numerals.{add-one}
-use borrow.Author.Tests.{lt-ltb, le-ltb, ltb-true, ltb-false}
+use borrow.Author.Tests.{lt-ltb, le-ltb, ltb-false}
 use lib.Dec.{eqb, ltb}
 use lib.ListN.{length, drop}
 use lib.Seq.{drop_at, drop-append-add, drop-drop}
 use Rattle.lists.specs.Rows.{tab, num}
 use Rattle.lists.proofs.Logic.{split}
 use Rattle.lists.proofs.RowLaws.{length_tab, get_d_tab, tab_same}
-use Rattle.lists.proofs.PlaceLaws.{first_most, first_same}
+use Rattle.lists.specs.Places.{found}
+use Rattle.lists.proofs.PlaceLaws.{first_most, first_same, found_is, found_not}
 use Rattle.job.specs.declared.Literal.{Literal}
 use Rattle.job.specs.declared.refusal.Refusal.{Refusal}
 use Rattle.job.specs.Faults.{number_of}
@@ -22,7 +23,7 @@ use Rattle.std.proofs.Common.{Result, Ok, Err, None, Some, replicate, append-nil
 use Rattle.reply.specs.Said.{says, literals, marks}
 use Rattle.reply.specs.Reply.{Heard, turned, whole, heard_in, refusal, values, truth, missing, completed, values_read}
 use Rattle.reply.specs.Check.{accepted, refused, blank}
-use Rattle.reply.specs.Answers.{settled, heard_of, gap, cleaned}
+use Rattle.reply.specs.Answers.{settled, heard_of, cleaned}
 use Rattle.reply.proofs.MarkLaws.{map_heard, marked, marked_at, heard_marked}
 
 -- the whole buffer filled with zeros
@@ -70,22 +71,6 @@ module _ (N : ℕ) (work w : List ℕ) (ls : List Literal) (e : w ≡ marked N (
   same_values : cleaned N w ≡ tab N (λ x. truth (says ls x)) ++ drop N work
   same_values = rw (rest_kept, tab_same N (λ x. truth (num w x)) (λ x. truth (says ls x)) (λ x l. ap truth (mark_is x l)))
 
--- ---- the first number of which nothing is said
-
-gap_some : (N y x : ℕ) → Some x ≡ gap N y → (x ≡ y) × (y < N)
-gap_some N y x e = go (split (ltb y N))
-  where
-    go : (ltb y N ≡ true) ⊎ (ltb y N ≡ false) → (x ≡ y) × (y < N)
-    go (inl h) = let f : Some x ≡ Some y = rw h at e in (cc, ltb-true y N h)
-    go (inr h) = let f : Some x ≡ None = rw h at e in let z : ◌≡◌ {A = ℕ} 0 1 = cc in absurd (omega arith)
-
-gap_none : (N y : ℕ) → None ≡ gap N y → N ≤ y
-gap_none N y e = go (split (ltb y N))
-  where
-    go : (ltb y N ≡ true) ⊎ (ltb y N ≡ false) → N ≤ y
-    go (inl h) = let f : None ≡ Some y = rw h at e in let z : ◌≡◌ {A = ℕ} 0 1 = cc in absurd (omega arith)
-    go (inr h) = ltb-false y N h
-
 -- ---- the buffer is cleared to z; h and w are what was heard in the reply s, with the marks
 
 module _ (s work z w : List ℕ) (cleared : z ≡ blank (length work) work) (long : length z ≡ length work) (as_long : length w ≡ length z)
@@ -120,14 +105,14 @@ module _ (s work z w : List ℕ) (cleared : z ≡ blank (length work) work) (lon
     clean : w' ≡ cleaned (missing N (num w)) w
     clean = settles ∙ ap (λ n. cleaned (missing n (num w)) w) same_long
 
-    pub a_gap : (x : ℕ) → Some x ≡ gap (length w) (missing (length w) (num w)) → (w'' : List ℕ) → w'' ≡ blank (length w') w'
+    pub a_gap : (x : ℕ) → Some x ≡ found (length w) (missing (length w) (num w)) → (w'' : List ℕ) → w'' ≡ blank (length w') w'
         → refused 64 (x + 1) w'' ≡ settled N work (values_read N s)
     unfolding values_read
-    a_gap x found w'' b =
+    a_gap x place w'' b =
         ap (refused 64 (x + 1)) (b ∙ ap (λ n. blank n w') (still ∙ same_long) ∙ kept) ∙ go H (rw e at heard)
       where
         at_gap : (x ≡ missing N (num w)) × (missing N (num w) < N)
-        at_gap = gap_some N (missing N (num w)) x (found ∙ ap (λ n. gap n (missing n (num w))) same_long)
+        at_gap = found_is N (missing N (num w)) x (place ∙ ap (λ n. found n (missing n (num w))) same_long)
 
         kept : blank N w' ≡ blank N w
         kept =
@@ -143,7 +128,7 @@ module _ (s work z w : List ℕ) (cleared : z ≡ blank (length work) work) (lon
             let t : x ≡ missing N (says ls) = at_gap.0 ∙ same_missing N work w ls m in
             rw (← t, lt-ltb x N (omega (arith, at_gap)), rest_kept N work w ls m, add-one x)
 
-    pub all_said : None ≡ gap (length w) (missing (length w) (num w)) → accepted w' ≡ settled N work (values_read N s)
+    pub all_said : None ≡ found (length w) (missing (length w) (num w)) → accepted w' ≡ settled N work (values_read N s)
     unfolding values_read
     all_said none = go H (rw e at heard)
       where
@@ -153,7 +138,7 @@ module _ (s work z w : List ℕ) (cleared : z ≡ blank (length work) work) (lon
             let m : w ≡ marked N (drop N work) ls = cc in
             let y = missing N (num w) in
             let t : missing N (says ls) ≡ y = sym (same_missing N work w ls m) in
-            let l : N ≤ y = gap_none N y (none ∙ ap (λ n. gap n (missing n (num w))) same_long) in
+            let l : N ≤ y = found_not N y (none ∙ ap (λ n. found n (missing n (num w))) same_long) in
             let all : y ≡ N = omega (arith, first_most (λ i. eqb (num w i) 0) N) in
             let v : w' ≡ tab N (λ y. truth (says ls y)) ++ drop N work = clean ∙ ap (λ (n : ℕ). cleaned n w) all
             ∙ same_values N work w ls m in

@@ -1,5 +1,5 @@
 -- What the answers of the code mean: number, place and values for each case.
-use Rattle.std.specs.Prelude.{cond, List, ◌++◌, Option, None, Some, Result, Ok, Err, ℕ, ltb, drop}
+use Rattle.std.specs.Prelude.{List, ◌++◌, Result, Ok, Err, ℕ, drop}
 use Rattle.lists.specs.Rows.{tab, num}
 use Rattle.lists.specs.Pieces.{cut}
 use Rattle.job.specs.declared.refusal.Fault.{Fault}
@@ -23,10 +23,6 @@ abbrev pub part_of : Result Progress Fault → List ℕ → Part (List ℕ)
 part_of (Err f) m = fault (number_of f) m
 part_of (Ok More) m = more m
 part_of (Ok Closed) m = closed m
-
--- the first number of which nothing is said, where there is one below N
-abbrev pub gap : ℕ → ℕ → Option ℕ
-gap N missing = cond (ltb missing N) (Some missing) None
 
 -- the first x marks turned into values
 abbrev pub cleaned : ℕ → List ℕ → List ℕ

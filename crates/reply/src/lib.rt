@@ -10,7 +10,8 @@ ghost use Rattle.reply.specs.Said.{mark, marks};
 ghost use Rattle.reply.specs.Lines.{comment, more, opening, say_in, numbers_in, value_line_in, value_lines_in, closing};
 ghost use Rattle.reply.specs.Reply.{heard_in, missing, values_read};
 ghost use Rattle.reply.specs.Check.{blank, checked};
-ghost use Rattle.reply.specs.Answers.{outcome, settled, part_of, opened_of, told_of, heard_of, gap, cleaned};
+ghost use Rattle.lists.specs.Places.{found};
+ghost use Rattle.reply.specs.Answers.{outcome, settled, part_of, opened_of, told_of, heard_of, cleaned};
 
 use fit::FitJob;
 use job::{Fault, Job, Literal, Refusal};
@@ -29,7 +30,8 @@ enum Progress {
     Closed,
 }
 
-// The working buffer below is what is lent of it: a byte for each variable, in which a number that came has left its mark.
+// The working buffer below is what is lent of it: a byte for each variable, in which a number that came has left its mark. A struct of its
+// own would hold nothing beside it.
 // The loops go from one line or word to the next, wherever the reader finds it: no range counts them.
 
 // Up to the line behind `s SATISFIABLE`.
@@ -127,12 +129,7 @@ fn read_values(reader: &mut Reader<'_>, work: &mut [u8]) -> Result<(), Refusal>
 {
     loop {
         let line = reader.next_line();
-        let progress = match read_value_line(line, &mut *work) {
-            Ok(progress) => progress,
-            Err(fault) => {
-                return Err(fault.at(line.number));
-            }
-        };
+        let progress = read_value_line(line, &mut *work).map_err(|fault| fault.at(line.number))?;
         if !line.ended {
             return Err(Fault::ReplyForm.at(line.number));
         }
@@ -181,7 +178,7 @@ fn clear(work: &mut [u8])
 
 // Marks become values, up to the first that is missing.
 fn settle(work: &mut [u8]) -> Option<usize>
-    ensures found { result ≡ gap (length work.old) (missing (length work.old) (num work.old)) }
+    ensures found { result ≡ found (length work.old) (missing (length work.old) (num work.old)) }
     ensures buffer { work.new ≡ cleaned (missing (length work.old) (num work.old)) work.old }
 {
     for i in 0..work.len() {
@@ -225,9 +222,8 @@ pub fn check(j: Job, reply: &[u8], work: &mut [u8]) -> Result<(), Refusal>
     }
     let values = &mut work[..header.variables];
     read_reply(reply, &mut *values)?;
-    let first_false = cnf::false_clause(j, values)?;
-    if first_false <= header.clauses {
-        return Err(Fault::ClauseFalse.at(first_false));
+    match cnf::false_clause(j, values)? {
+        Some(clause) => Err(Fault::ClauseFalse.at(clause)),
+        None => Ok(()),
     }
-    Ok(())
 }

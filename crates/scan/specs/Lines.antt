@@ -1,5 +1,5 @@
 -- 'Lines end in LF' (document 01, 'The job text').
-use Rattle.std.specs.Prelude.{ℕ, Bool, true, false, List, [], ◌∷◌}
+use Rattle.std.specs.Prelude.{ℕ, ◌+◌, Bool, true, false, List, [], ◌∷◌, length}
 use Rattle.lists.specs.Pieces.{Pieces, last, piece, cut}
 
 -- a line's bytes, and whether its LF is there
@@ -18,3 +18,8 @@ rows (piece p ps) = row p true ∷ rows ps
 
 unfoldable pub lines : List ℕ → List Row
 lines text = rows (cut 10 text)
+
+-- the bytes of these lines, and an LF each
+abbrev pub size : List Row → ℕ
+size [] = 0
+size (l ∷ ls) = length l.bytes + 1 + size ls

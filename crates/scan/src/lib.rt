@@ -9,6 +9,9 @@ ghost use Rattle.lists.specs.Tests.{within as is_within};
 ghost use Rattle.lists.specs.Pieces.{starts};
 ghost use Rattle.scan.specs.Bytes.{word_at, plain as plain_bytes};
 ghost use Rattle.scan.specs.Names.{lookup};
+ghost use Rattle.scan.specs.Lines.{row, lines};
+ghost use Rattle.scan.specs.Iterating.{row_of, lines_left};
+ghost use Rattle.std.specs.Iterator.{YieldsFirstBy, item_count};
 
 use lists::get_or;
 
@@ -21,6 +24,7 @@ pub fn within(byte: u8, lo: u8, hi: u8) -> bool
 }
 
 // What is left of a text from a column on; past its end, nothing.
+#[tactic(auto, using(crate::proofs::WordLaws::rest_from))]
 pub fn rest(s: &[u8], column: usize) -> &[u8]
     ensures { result.now ≡ drop column s.now }
 {
@@ -35,18 +39,12 @@ fn unstopped(s: &[u8], stop: u8) -> usize
 }
 
 // The word that starts at from and ends at the first stop, or at the line's end.
+#[tactic(auto, using(crate::proofs::WordLaws::passed_over, lists::proofs::PieceLaws::take_up_to, lists::proofs::PieceLaws::length_up_to))]
 pub fn word(s: &[u8], from: usize, stop: u8) -> &[u8]
     ensures { result.now ≡ word_at stop s.now from }
 {
     let left = rest(s, from);
     &left[..unstopped(left, stop)]
-}
-
-// Where that word ends.
-pub fn end_of(s: &[u8], from: usize, stop: u8) -> usize
-    ensures { result ≡ from + length (word_at stop s.now from) }
-{
-    from + word(s, from, stop).len()
 }
 
 // The part of a text from from to to, as far as it lies in the text.
@@ -83,6 +81,7 @@ pub fn find(names: &[u8], count: usize, word: &[u8]) -> Option<usize>
 }
 
 // The line goes on with this word.
+#[tactic(auto, using(lists::proofs::PieceLaws::starts_is))]
 pub fn follows(s: &[u8], column: usize, w: &[u8]) -> bool
     ensures { result ≡ starts w.now (drop column s.now) }
 {
@@ -95,4 +94,46 @@ pub fn plain(s: &[u8]) -> bool
     ensures { result ≡ plain_bytes s.now }
 {
     s.iter().all(|byte| within(*byte, 32, 126))
+}
+
+// A line of a text: its bytes without LF, and whether its LF is there.
+#[derive(Clone, Copy)]
+pub struct Line<'a> {
+    pub bytes: &'a [u8],
+    pub ended: bool,
+}
+
+// The lines of a text, one after the other; a loop over them knows which are still to come.
+#[derive(Drop)]
+pub struct Lines<'a> {
+    rest: &'a [u8],
+}
+
+impl<'a> Lines<'a> {
+    pub fn new(text: &'a [u8]) -> Lines<'a>
+        ensures { lines_left result ≡ lines text.now }
+    {
+        Lines { rest: text }
+    }
+}
+
+impl<'a> Iterator for Lines<'a> {
+    type Item = Line<'a>;
+
+    ghost next_gives = { YieldsFirstBy row_of lines_left };
+
+    ghost remaining = { item_count lines_left };
+
+    fn next(&mut self) -> Option<Line<'a>> {
+        let text = self.rest;
+        if text.is_empty() {
+            return None;
+        }
+        let end = unstopped(text, b'\n');
+        self.rest = rest(text, end + 1);
+        Some(Line {
+            bytes: &text[..end],
+            ended: end < text.len(),
+        })
+    }
 }

@@ -8,11 +8,11 @@ use Prim.Native.Nat.{ℕ, suc, ◌+◌, ◌*◌, ◌≤◌}
 use native.Mathlib.Omega.{arith}
 use lib.Dec.{eqb}
 use lib.ListN.{length, drop, length-append}
-use Rattle.lists.specs.Pieces.{Pieces, last, piece, onto, cut, starts}
+use Rattle.lists.specs.Pieces.{Pieces, last, piece, onto, cut}
 use Rattle.lists.proofs.Logic.{split}
 use Rattle.lists.proofs.PieceLaws.{starts_length}
 use Rattle.scan.specs.Lines.{rows, lines}
-use Rattle.program.specs.ProgramLine.{is_lemmas}
+use Rattle.program.specs.ProgramLine.{is_lemmas, is_comment}
 use Rattle.text.specs.Comments.{remark, remarks, comments}
 use Rattle.text.proofs.CommentLaws.{remark_long, remark_not}
 
@@ -36,9 +36,10 @@ cut_size k (b ∷ bs) = go (eqb b k) (cut_size k bs)
     go false e = omega (arith, onto_size b (cut k bs))
 
 remark_twice : (line : List ℕ) → length (remark line) ≤ 2 * length line + 2
-remark_twice line = go (split (starts (126 ∷ []) line))
+unfolding is_comment
+remark_twice line = go (split (is_comment line))
   where
-    go : (starts (126 ∷ []) line ≡ true) ⊎ (starts (126 ∷ []) line ≡ false) → length (remark line) ≤ 2 * length line + 2
+    go : (is_comment line ≡ true) ⊎ (is_comment line ≡ false) → length (remark line) ≤ 2 * length line + 2
     go (inl e) = omega (arith, remark_long line e, starts_length (126 ∷ []) line e)
     go (inr e) = omega (arith, ap length (remark_not line e))
 

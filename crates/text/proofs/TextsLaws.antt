@@ -3,11 +3,12 @@ use mathlib.Core.Path.{◌≡◌, refl, sym, ap, ◌∙◌}
 use mathlib.Core.Bool.{Bool, true, false}
 use mathlib.Core.Logic.{◌⊎◌, inl, inr}
 use mathlib.Core.List.{List, [], ◌∷◌}
-use Prim.Native.Nat.{ℕ, zero, suc, ◌+◌, ◌-◌, ◌≤◌, ◌<◌}
+use Prim.Native.Nat.{ℕ, zero, suc, ◌+◌, ◌*◌, ◌-◌, ◌≤◌, ◌<◌}
 use native.Mathlib.Decide.{ℕ_discrete}
 use native.Mathlib.Omega.{arith}
+use native.Mathlib.Nat.{mul-le-mul_right}
 use native.Mathlib.Numerals.{add-one}
-use borrow.Author.Tests.{leb-true, le-leb, lt-leb}
+use borrow.Author.Tests.{leb-true, leb-false, le-leb, lt-leb}
 use lib.Dec.{leb}
 use lib.ListN.{length, take, length-append}
 use Rattle.lists.specs.Rows.{each, tab}
@@ -19,8 +20,8 @@ use Rattle.lists.proofs.PlaceLaws.{passing_stop, row_most, row_next, row_found}
 use Rattle.lists.proofs.WritingLaws.{write_none}
 use Rattle.put.specs.declared.Page.{Page}
 use Rattle.put.specs.Put.{Adds, Puts}
-use Rattle.put.proofs.PutLaws.{put_none, put_most, put_own, put_then, put_fits, put_front, put_length}
-use Rattle.text.specs.Texts.{fitting, texted, with_texts}
+use Rattle.put.proofs.PutLaws.{put_none, put_most, put_own, put_then, put_fits, put_without, put_front, put_length}
+use Rattle.text.specs.Texts.{fitting, texted, with_texts, PutsWhole}
 
 -- text i fits behind those before it
 abbrev fits : (ℕ → List ℕ) → List ℕ → ℕ → Bool
@@ -47,9 +48,6 @@ module _ (text : ℕ → List ℕ) (start : Page) (front : start.end ≡ 0) wher
     pub begun_length : length page.out.now ≡ length start.out.now
     begun_length = put_length b.put (omega arith)
 
-    pub begun_room : (k : ℕ) → k ≤ length page.out.now - page.end → page.end + k ≤ length page.out.now
-    begun_room k h = omega (arith, begun_length, begun_end, b.put.short)
-
     pub begun_next : {most : ℕ} {new : Page} → Puts most page new (text i) → length (text i) ≤ length page.out.now - page.end
         → Begun text start new (i + 1)
     unfolding each
@@ -62,15 +60,6 @@ module _ (text : ℕ → List ℕ) (start : Page) (front : start.end ≡ 0) wher
           all_fit = row_next (fits text start.out.now) i b.all_fit
               (le-leb (length (each (suc i) text)) (length start.out.now) (omega (arith, longer text i)));
         }
-
-    -- the same where it was made on a page of its own and is put from there
-    pub begun_part : {most : ℕ} {first line new : Page} → Puts most first line (text i) → first.end ≡ 0
-        → line.end ≤ length page.out.now - page.end → {x : List ℕ} → Adds page new (take line.end x) → x ≡ line.out.now
-        → Begun text start new (i + 1)
-    begun_part {line} made front h a e =
-        let n : line.end ≡ length (text i) = omega (arith, made.end) in
-        let put = rw (e, put_front made front) at a in
-        begun_next (put_fits put (begun_room (length (text i)) (omega arith))) (omega arith)
 
     ended : (n : ℕ) → fitting n text (length start.out.now) ≡ i
         → (record { count = i; bytes = page.end } ≡ texted n text start.out.now) × (page.out.now ≡ with_texts n text start.out.now)
@@ -87,6 +76,41 @@ module _ (text : ℕ → List ℕ) (start : Page) (front : start.end ≡ 0) wher
         → (record { count = i; bytes = page.end } ≡ texted n text start.out.now) × (page.out.now ≡ with_texts n text start.out.now)
     unfolding fitting
     begun_all n e = ended n (rw (← e) b.all_fit)
+
+  -- the call that puts the next one tells whether it went on
+  module _ (i : ℕ) {most : ℕ} {page new : Page} {told : Bool} (b : Begun text start page i)
+      (p : PutsWhole most page new told (text i)) where
+    pub begun_more : told ≡ true → Begun text start new (i + 1)
+    begun_more e =
+        let h = leb-true _ _ (sym p.fits ∙ e) in
+        begun_next i b (put_fits p.adds h) (omega arith)
+
+    -- so many bytes for each are enough so far
+    pub begun_short : told ≡ true → page.end ≤ i * most → new.end ≤ (i + 1) * most
+    begun_short e h =
+        let q = put_fits p.adds (leb-true _ _ (sym p.fits ∙ e)) in
+        omega (arith, q.end, p.short)
+
+    pub begun_room : told ≡ false → page.end ≤ i * most → (n : ℕ) → i < n → n * most ≤ length start.out.now → ⊥
+    begun_room e h n l room =
+        let k = leb-false _ _ (sym p.fits ∙ e) in
+        let m = mul-le-mul_right {m = suc i} {n = n} most l in
+        omega (arith, p.short, begun_length i b)
+
+    pub begun_stop : (n : ℕ) → i < n → told ≡ false
+        → (record { count = i; bytes = new.end } ≡ texted n text start.out.now) × (new.out.now ≡ with_texts n text start.out.now)
+    begun_stop n l e =
+        let h = leb-false _ _ (sym p.fits ∙ e) in
+        let (end, out) = put_without p.adds h in
+        rw (end, out) (begun_full i b n l (omega (arith, b.put.short, begun_end i b, begun_length i b)))
+
+-- a text that was made on a page of its own and is put from there
+pub put_made : {most : ℕ} {first line old new : Page} {told : Bool} {text x : List ℕ} → Puts most first line text → first.end ≡ 0
+    → told ≡ leb (old.end + line.end) (length old.out.now) → Adds old new (take line.end x) → x ≡ line.out.now
+    → PutsWhole most old new told text
+put_made {line} {text} made front t a e =
+    let n : line.end ≡ length text = omega (arith, made.end) in
+    record { short = made.short; fits = rw n at t; adds = rw (e, put_front made front) at a }
 
 -- no texts
 pub texts_none : (text : ℕ → List ℕ) (old : List ℕ) → (record { count = 0; bytes = 0 } ≡ texted 0 text old) × (old ≡ with_texts 0 text old)

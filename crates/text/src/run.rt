@@ -1,14 +1,14 @@
 // The lines of a run.
-ghost use Rattle.std.specs.Prelude.{◌≡◌, ◌+◌, ◌*◌, ◌-◌, ◌≤◌, ◌<◌, length};
+ghost use Rattle.std.specs.Prelude.{◌+◌, ◌*◌, ◌-◌, ◌≤◌, length};
 ghost use Rattle.lists.specs.Rows.{num};
-ghost use Rattle.put.specs.Put.{Puts};
-ghost use Rattle.text.specs.Texts.{texted, with_texts};
+ghost use Rattle.put.specs.Put.{HasRoom, Puts};
+ghost use Rattle.text.specs.Texts.{PutsWhole};
 ghost use Rattle.text.specs.RunText.{word, bit_text, bits_text, turn_text, steps_text, line_text, run_line};
 ghost use Rattle.job.specs.Limits.{max_steps, max_bound};
 
+use super::has_room;
 use super::numeral::put_number;
-use super::{Texted, rest};
-use job::Job;
+use job::{Job, Process};
 use lists::get_or;
 use put::Page;
 
@@ -16,7 +16,7 @@ use put::Page;
 const LINE: usize = 33 + 26 * Job::STEPS;
 
 fn put_word(page: &mut Page, names: &[u8], k: usize)
-    requires { page.old.end + 5 ≤ length page.old.out.now }
+    requires { HasRoom page.old 5 }
     ensures { Puts 5 page.old page.new (word names.now k) }
 {
     page.byte(b' ');
@@ -25,7 +25,7 @@ fn put_word(page: &mut Page, names: &[u8], k: usize)
 
 // `a=0` behind a space.
 fn put_bit(page: &mut Page, names: &[u8], x: usize, b: u8)
-    requires { page.old.end + 26 ≤ length page.old.out.now }
+    requires { HasRoom page.old 26 }
     ensures { Puts 26 page.old page.new (bit_text names.now x b) }
 {
     put_word(page, names, x);
@@ -35,7 +35,7 @@ fn put_bit(page: &mut Page, names: &[u8], x: usize, b: u8)
 
 // The bits of a group.
 fn put_bits(page: &mut Page, names: &[u8], group: &[u8], n: usize)
-    requires { (page.old.end + n * 26 ≤ length page.old.out.now) × (n ≤ max_steps) }
+    requires { (HasRoom page.old (n * 26)) × (n ≤ max_steps) }
     ensures { Puts (n * 26) page.old page.new (bits_text names.now n (num group.now)) }
 {
     for x in 0..n {
@@ -44,19 +44,19 @@ fn put_bits(page: &mut Page, names: &[u8], group: &[u8], n: usize)
 }
 
 fn put_turn(page: &mut Page, b: u8)
-    requires { page.old.end + 2 ≤ length page.old.out.now }
+    requires { HasRoom page.old 2 }
     ensures { Puts 2 page.old page.new (turn_text b) }
 {
-    match b {
-        1 => page.part(b" A"),
-        2 => page.part(b" B"),
-        _ => {}
+    if b == Process::A as u8 {
+        page.part(b" A");
+    } else if b == Process::B as u8 {
+        page.part(b" B");
     }
 }
 
 // The name of the step with this number, which counts from 1.
 fn put_step(page: &mut Page, labels: &[u8], number: u8)
-    requires { page.old.end + 5 ≤ length page.old.out.now }
+    requires { HasRoom page.old 5 }
     ensures { Puts 5 page.old page.new (word labels.now (number - 1)) }
 {
     put_word(page, labels, usize::from(number.saturating_sub(1)));
@@ -64,7 +64,7 @@ fn put_step(page: &mut Page, labels: &[u8], number: u8)
 
 // Time and steps.
 fn put_steps(page: &mut Page, labels: &[u8], group: &[u8], t: usize)
-    requires { page.old.end + 30 ≤ length page.old.out.now }
+    requires { HasRoom page.old 30 }
     ensures { Puts 30 page.old page.new (steps_text labels.now (num group.now) t) }
 {
     put_number(page, t);
@@ -75,7 +75,7 @@ fn put_steps(page: &mut Page, labels: &[u8], group: &[u8], t: usize)
 // The line of time t, which has this group.
 fn put_line(page: &mut Page, j: &Job, group: &[u8], t: usize)
     requires variables { j.now.program.variables ≤ max_steps }
-    requires room { page.old.end + (30 + j.now.program.variables * 26 + 2 + 1) ≤ length page.old.out.now }
+    requires room { HasRoom page.old (30 + j.now.program.variables * 26 + 2 + 1) }
     ensures { Puts (30 + j.now.program.variables * 26 + 2 + 1) page.old page.new
         (line_text j.now.labels j.now.names j.now.program.variables (num group.now) t) }
 {
@@ -86,29 +86,21 @@ fn put_line(page: &mut Page, j: &Job, group: &[u8], t: usize)
     page.byte(b'\n');
 }
 
-// Each line is made in an array of its own and goes behind the others where it fits.
-// Not one function with `numbers_text`: a number's length is known before it is put, so that it needs no array.
-pub(crate) fn put_lines(j: &Job, run: &[u8], out: &mut [u8]) -> Texted
-    requires { (j.now.program.variables ≤ max_steps) × (j.now.program.bound ≤ max_bound) }
-    ensures { (result ≡ texted (j.now.program.bound + 1) (run_line j.now run.now) out.old)
-        × (out.new ≡ with_texts (j.now.program.bound + 1) (run_line j.now run.now) out.old) }
+// Line t of a run where it has room, made in an array of its own; tells whether it had.
+pub(crate) fn try_put_line(page: &mut Page, j: &Job, run: &[u8], t: usize) -> bool
+    requires { (j.now.program.variables ≤ max_steps) × (t ≤ max_bound) }
+    ensures { PutsWhole (30 + j.now.program.variables * 26 + 2 + 1) page.old page.new result (run_line j.now run.now t) }
 {
-    let mut page = Page::new(out);
     let mut line = [0u8; LINE];
-    for t in 0..j.program.bound + 1 {
-        let mut one = Page::new(&mut line);
-        put_line(&mut one, j, rest(run, t * (j.program.variables + 3)), t);
-        let end = one.end;
-        if page.out.len() - page.end < end {
-            return Texted {
-                count: t,
-                bytes: page.end,
-            };
-        }
-        page.part(&line[..end]);
-    }
-    Texted {
-        count: j.program.bound + 1,
-        bytes: page.end,
-    }
+    let mut one = Page::new(&mut line);
+    put_line(
+        &mut one,
+        j,
+        scan::rest(run, t * (j.program.variables + 3)),
+        t,
+    );
+    let end = one.end;
+    let fits = has_room(page, end);
+    page.part(&line[..end]);
+    fits
 }

@@ -1,8 +1,10 @@
 // One number of a clause.
 ghost use Rattle.std.specs.Prelude.{◌≡◌, ◌+◌, ◌≤◌, length};
-ghost use Rattle.put.specs.Put.{Puts};
-ghost use Rattle.text.specs.Dimacs.{told};
+ghost use Rattle.put.specs.Put.{HasRoom, Puts};
+ghost use Rattle.text.specs.Dimacs.{number_room, told};
+ghost use Rattle.text.specs.Texts.{PutsWhole};
 
+use super::has_room;
 use super::numeral::{digits, put_number};
 use put::Page;
 
@@ -14,8 +16,8 @@ pub(crate) fn told_length(x: i32) -> usize
     usize::from(x < 0) + digits(x.unsigned_abs() as usize) + 1
 }
 
-pub(crate) fn put_told(page: &mut Page, x: i32)
-    requires { page.old.end + length (told x) ≤ length page.old.out.now }
+fn put_told(page: &mut Page, x: i32)
+    requires { HasRoom page.old (length (told x)) }
     ensures { Puts (length (told x)) page.old page.new (told x) }
 {
     if x < 0 {
@@ -24,4 +26,15 @@ pub(crate) fn put_told(page: &mut Page, x: i32)
     let size = x.unsigned_abs() as usize;
     put_number(page, size);
     page.byte(if size == 0 { b'\n' } else { b' ' });
+}
+
+// The number, where it has room; tells whether it had.
+pub(crate) fn try_put_told(page: &mut Page, x: i32) -> bool
+    ensures { PutsWhole number_room page.old page.new result (told x) }
+{
+    let fits = has_room(page, told_length(x));
+    if fits {
+        put_told(page, x);
+    }
+    fits
 }

@@ -1,47 +1,21 @@
 -- The library's tests of a line are those of the definition.
-use Rattle.std.proofs.Common.{◌≡◌, refl, ℕ, Bool, true, false, ◌&&◌, List, [], ◌∷◌, length, sym, ap, ◌∙◌}
-use native.Mathlib.Decide.{ℕ_discrete}
-use borrow.Author.Tests.{eq-eqb, ne_eqb, eqb-true}
-use lib.Dec.{eqb, eqb-suc-suc, eqb-suc-zero, eqb-zero-suc}
+use Rattle.std.proofs.Common.{◌≡◌, refl, ℕ, Bool, true, false, List, [], ◌∷◌, length, sym, ◌∙◌}
+use borrow.Author.Tests.{ne_eqb, eqb-true}
+use lib.Dec.{eqb}
 use lib.Pointwise.{pointwise}
 use Rattle.std.specs.List.{starts_with}
 use Rattle.lists.proofs.Logic.{and_left, and_no}
 use Rattle.lists.specs.Pieces.{starts, is, up_to}
-
-eqb_turned : (a b : ℕ) → eqb a b ≡ eqb b a
-eqb_turned a b = go (ℕ_discrete a b)
-  where
-    go : Dec (a ≡ b) → eqb a b ≡ eqb b a
-    go (yes e) = eq-eqb a b e ∙ sym (eq-eqb b a (sym e))
-    go (no e) = ne_eqb a b e ∙ sym (ne_eqb b a (λ p. e (sym p)))
-
-pub starts_is : (t p : List ℕ) → starts_with eqb p t ≡ starts t p
-unfolding starts
-starts_is [] p = refl
-starts_is (x ∷ t) [] = refl
-starts_is (x ∷ t) (b ∷ p) = rw (eqb_turned x b, starts_is t p)
-
-and_behind : (a b c : Bool) → (b && (a && c)) ≡ (a && (b && c))
-and_behind true b c = refl
-and_behind false b c = and_no b
-
-pub line_is : (t p : List ℕ) → pointwise eqb p t ≡ is t p
-unfolding is starts
-line_is [] [] = refl
-line_is (x ∷ t) [] = rw (eqb-zero-suc (length t))
-line_is [] (b ∷ p) = rw (eqb-suc-zero (length p))
-line_is (x ∷ t) (b ∷ p) =
-    rw (eqb-suc-suc (length p) (length t))
-    (ap (λ (r : Bool). eqb b x && r) (line_is t p) ∙ and_behind (eqb (length p) (length t)) (eqb b x) (starts t p))
+use Rattle.lists.proofs.PieceLaws.{starts_is, is_equal}
 
 -- ---- what a test answered
 
 module _ (t p : List ℕ) (r b : Bool) (is_b : r ≡ b) where
   pub begins : r ≡ starts_with eqb p t → starts t p ≡ b
-  begins e = sym (starts_is t p) ∙ sym e ∙ is_b
+  begins e = starts_is t p ∙ sym e ∙ is_b
 
   pub equals : r ≡ pointwise eqb p t → is t p ≡ b
-  equals e = sym (line_is t p) ∙ sym e ∙ is_b
+  equals e = is_equal t p ∙ sym e ∙ is_b
 
 -- ---- a line of values is of no other kind
 

@@ -5,7 +5,7 @@ use mathlib.Core.List.{List, [], ◌∷◌}
 use Prim.Native.Nat.{ℕ, zero, suc, ◌+◌, ◌*◌, ◌-◌, ◌≤◌, ◌<◌, ◌^◌, min}
 use native.Mathlib.Omega.{arith}
 use native.Mathlib.Decide.{ℕ_discrete, dec_lt}
-use native.Mathlib.Nat.{pow-suc, pow-le-pow_right}
+use native.Mathlib.Nat.{pow-suc}
 use native.Mathlib.Numerals.{add-one}
 use borrow.Author.Tests.{eq-eqb, ne_eqb, eqb-true}
 use lib.Dec.{eqb}
@@ -101,10 +101,6 @@ module _ (s : List ℕ) (i v : ℕ) (left : length (front s) ≡ i + length (fro
       × (decimal 0 (front s) ≡ decimal (v * 10 + (d - 48)) (front (drop (i + 1) s)))
   unfolding decimal
   scan_on e = (omega (arith, ap length e), writes ∙ ap (decimal v) e)
-
--- below 10 ^ 7 before the last of 8 digits
-pub seven_digits : (j : ℕ) → j ≤ 7 → 10 ^ j ≤ 10000000
-seven_digits j h = pow-le-pow_right {n = 10} (omega arith) {i = j} {j = 7} h
 
 pub one_digit_more : (j : ℕ) → 10 ^ (j + 1) ≡ 10 * 10 ^ j
 one_digit_more j = ap (λ (n : ℕ). 10 ^ n) (add-one j) ∙ pow-suc 10 j ∙ omega arith

@@ -53,7 +53,7 @@ const SATISFIABLE: &[u8] = b"s SATISFIABLE";
 
 const UNSATISFIABLE: &[u8] = b"s UNSATISFIABLE";
 
-// The kind of a line.
+// The kind of a line. Tests and no `match` over byte strings, which is proved byte by byte, with forty goals.
 pub fn kind_of(line: &[u8]) -> Kind
     ensures { result ≡ kind_of line.now }
 {
@@ -85,11 +85,11 @@ fn digits(part: &[u8]) -> Front
     ensures value { result.value ≡ decimal 0 (front part.now) }
 {
     let mut value = 0;
-    for i in 0..part.len() {
-        if !part[i].is_ascii_digit() {
+    for (i, &byte) in part.iter().enumerate() {
+        if !byte.is_ascii_digit() {
             return Front { count: i, value };
         }
-        value = value * 10 + usize::from(part[i] - b'0');
+        value = value * 10 + usize::from(byte - b'0');
     }
     Front {
         count: part.len(),
@@ -108,13 +108,10 @@ fn numbered(plain: bool, value: usize, ends: bool) -> Token
             Token::Bad
         }
     } else {
-        let place = value - 1;
-        let literal = if plain {
-            Literal::On(place)
-        } else {
-            Literal::Off(place)
-        };
-        Token::Number { literal, ends }
+        Token::Number {
+            literal: Literal::valued(plain, value - 1),
+            ends,
+        }
     }
 }
 

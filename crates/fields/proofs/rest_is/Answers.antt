@@ -3,7 +3,7 @@ use mathlib.Core.Path.{sym, ap, ◌∙◌}
 use mathlib.Core.List.{List}
 use Prim.Native.Nat.{ℕ}
 use Rattle.lists.specs.Pieces.{is}
-use Rattle.scan.proofs.WordLaws.{is_equal}
+use Rattle.lists.proofs.PieceLaws.{is_equal}
 use Rattle.fields.proofs.rest_is.Goals as goal
 
 pub returns : goal.returns

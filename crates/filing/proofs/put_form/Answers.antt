@@ -1,30 +1,22 @@
 -- The lines kept, `lemmas` and the lemma lines, one behind the other, are the form.
-use Rattle.job.proofs.FitnessLaws.{fit_lemmas}
+use Rattle.std.proofs.Common.{ap, ◌∙◌}
+use Rattle.filing.specs.Rows.{clauses}
 use Rattle.filing.proofs.PartLaws.{going_last}
-use Rattle.filing.proofs.FormLaws.{sized_lemmas, kept_room, word_written, lines_room}
+use Rattle.filing.proofs.FormLaws.{kept_room, word_written, lines_room}
 use Rattle.filing.proofs.put_form.Goals as goal
 
 pub put_kept-requires : goal.put_kept-requires
-put_kept-requires c =
-    let a = c.args in
-    kept_room a.text.now a.j a.page.now c.requires.0 c.requires.2
+put_kept-requires c = kept_room c.args.text.now c.args.job.now c.args.page.now c.requires.room
 
-pub file_rows-filed-requires : goal.file_rows-filed-requires
-file_rows-filed-requires c =
-    (c.requires.1, fit_lemmas c.args.j c.requires.0, sized_lemmas c.args.j c.requires.0)
-
-pub put_rows-requires : goal.put_rows-requires
-put_rows-requires c =
+pub put_lemmas-requires : goal.put_lemmas-requires
+put_lemmas-requires c =
     let a = c.args in
-    let rows = c.file_rows-filed.ensures in (
-      fit_lemmas a.j c.requires.0,
-      rows.0,
-      rw rows.1 (lines_room a.text.now a.j a.page.now c.requires.0 c.requires.2 c.put_kept.ensures c.part.ensures),
-    )
+    let rows = ap clauses c.deref.ensures.0 ∙ c.filed_rows.ensures in
+    rw rows (lines_room a.text.now a.job.now a.page.now c.requires.room c.put_kept.ensures c.part.ensures)
 
 pub returns : goal.returns
 returns c =
     let a = c.args in
-    let rows = c.file_rows-filed.ensures in
-    let lines = rw rows.1 at c.put_rows.ensures in
-    going_last (word_written a.text.now a.j a.page.now c.requires.0 c.requires.2 c.put_kept.ensures c.part.ensures) lines
+    let rows = ap clauses c.deref.ensures.0 ∙ c.filed_rows.ensures in
+    going_last (word_written a.text.now a.job.now a.page.now c.requires.room c.put_kept.ensures c.part.ensures)
+    (rw rows at c.put_lemmas.ensures)

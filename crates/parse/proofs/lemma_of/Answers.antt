@@ -9,18 +9,30 @@ use lib.ListN.{length, drop}
 use mir.Syntax.{w16}
 use mir.ValLaws.{to_z-of_z}
 use Rattle.scan.specs.Bytes.{word_at}
+use Rattle.fields.specs.declared.Cursor.{Cursor}
+use Rattle.items.specs.Items.{item_field}
+use Rattle.items.specs.declared.Name.{Name}
 use Rattle.parse.specs.Lemmas.{lemma, words, with_item, bare, item_in, signed as signedItem}
 use Rattle.parse.proofs.LemmaLaws.{words_space, words_word, words_end, sign_word, word_ends, name_is, name_end}
 use Rattle.parse.proofs.LemmaLaws.{item_within, lemma_44, lemma_43, lemma_on}
 use Rattle.parse.proofs.lemma_of.Goals as goal
 use Rattle.parse.proofs.lemma_of.Goals.{After-read_item}
 
+-- the name is looked up among those of the job
+read : (c : After-read_item) → let names = c.from.result in
+    let j = c.loop-at.job in
+    let s = c.args.s.now in
+    let at : Cursor = record { line = c.args.n; column = c.bare_at.result } in
+    item_field names.labels.now names.names.now names.steps names.variables s at
+    ≡ item_field j.labels j.names j.program.steps j.program.variables s at
+read c = let h = c.from.ensures in rw (h.0, h.1, h.2, h.3) refl
+
 -- what the name at at names
 named : (c : After-read_item) → let l = c.loop-at in c.read_item.result ≡ item_in l.job (bare (word_at 32 c.args.s.now l.at))
 named c =
     let l = c.loop-at in
     let in_line : l.at < length c.args.s.now = omega arith in
-    c.read_item.ensures.item
+    c.read_item.ensures.item ∙ ap (λ (x : Name). x.named) (read c)
     ∙ name_is c.args.s.now l.at in_line c.if-s-at-eq32.false c.bare_at.result c.bare_at.ensures l.job c.args.n _ refl
     l.invariant.3 l.invariant.4
 
@@ -30,7 +42,7 @@ ends : (c : After-read_item) → let l = c.loop-at in
 ends c =
     let l = c.loop-at in
     let in_line : l.at < length c.args.s.now = omega arith in
-    ap (λ x. x.column) c.read_item.ensures.cursor
+    ap (λ (x : Cursor). x.column) c.read_item.ensures.cursor ∙ ap (λ (x : Name). x.at.column) (read c)
     ∙ name_end c.args.s.now l.at in_line c.if-s-at-eq32.false c.bare_at.result c.bare_at.ensures l.job c.args.n _ refl
 
 pub loop-at-preserved-then-s-at-eq32 : goal.loop-at-preserved-then-s-at-eq32

@@ -1,17 +1,17 @@
 -- `program_lines` reads line by line: what is left from here gives the answer of the whole.
 use Rattle.program.proofs.DraftLaws.{Within}
 use Rattle.program.specs.Program.{program}
-use Rattle.scan.specs.Lines.{lines}
+use Rattle.scan.specs.Lines.{size}
+use Rattle.scan.specs.Iterating.{lines_left}
 use Rattle.job.specs.Limits.{max_text}
-use lib.ListN.{length, drop}
-use Prim.Native.Nat.{◌+◌, ◌-◌, ◌≤◌}
+use Prim.Native.Nat.{◌+◌, ◌≤◌}
 use mathlib.Core.Path.{◌≡◌}
 use Rattle.program.proofs.program_lines.Given as goal
 
-abbrev pub invariant-loop-at : goal.invariant-loop-at
-invariant-loop-at l =
-    (l.n ≤ l.at) × (l.at ≤ max_text + 1) × Within l.draft
-    × (program l.initial.draft l.from 1 (lines (drop l.from l.text)) ≡ program l.draft l.at l.n (lines (drop l.at l.text)))
-
-abbrev pub decreases-loop-at : goal.decreases-loop-at
-decreases-loop-at l = length l.text - l.at
+abbrev pub invariant-loop-line : goal.invariant-loop-line
+invariant-loop-line l = record {
+  line_by_line : l.n ≤ l.at;
+  size : l.at + size (lines_left l.line-iterator) ≤ max_text + 1;
+  within : Within l.draft;
+  same : program l.initial.draft l.from 1 (lines_left l.lines) ≡ program l.draft l.at l.n (lines_left l.line-iterator);
+}

@@ -33,29 +33,29 @@ returns-in_err-read_reply c =
     (is_refused a.j a.reply.now a.work.now f.fit f.ensures t.result t.ensures c.if-work-header.false c.if-reply-gt-MOST_BYTES.false
     r.result r.new.work r.ensures _ c.in_err-read_reply.was)
 
-pub returns-in_err-first_false : goal.returns-in_err-first_false
-returns-in_err-first_false c =
+pub returns-in_err-clause : goal.returns-in_err-clause
+returns-in_err-clause c =
     let a = c.args in
     let f = c.in_ok-fit in
     let t = c.header_of-header in
     let fits = h a.j a.reply.now a.work.now f.fit f.ensures t.result t.ensures in
-    absurd (not_unfit a.j fits c.read_reply.new.work c.false_clause.result c.false_clause.ensures _ c.in_err-first_false.was)
+    absurd (not_unfit a.j fits c.read_reply.new.work c.false_clause.result c.false_clause.ensures _ c.in_err-clause.was)
 
-pub returns-then-first_false-header : goal.returns-then-first_false-header
-returns-then-first_false-header c =
+pub returns-in-Some : goal.returns-in-Some
+returns-in-Some c =
     let a = c.args in
     let f = c.in_ok-fit in
     let t = c.header_of-header in
     let r = c.read_reply in
     rw c.at.ensures
     (is_65 a.j a.reply.now a.work.now f.fit f.ensures t.result t.ensures c.if-work-header.false c.if-reply-gt-MOST_BYTES.false
-    r.result r.new.work r.ensures _ c.in_ok-read_reply.was _ c.false_clause.ensures _ c.in_ok-first_false.was c.if-first_false-header.true)
+    r.result r.new.work r.ensures _ c.in_ok-read_reply.was _ c.false_clause.ensures _ c.in_ok-clause.was _ c.in-Some.is)
 
-pub returns : goal.returns
-returns c =
+pub returns-in-None : goal.returns-in-None
+returns-in-None c =
     let a = c.args in
     let f = c.in_ok-fit in
     let t = c.header_of-header in
     let r = c.read_reply in
     is_accepted_lem a.j a.reply.now a.work.now f.fit f.ensures t.result t.ensures c.if-work-header.false c.if-reply-gt-MOST_BYTES.false
-    r.result r.new.work r.ensures _ c.in_ok-read_reply.was _ c.false_clause.ensures _ c.in_ok-first_false.was c.if-first_false-header.false
+    r.result r.new.work r.ensures _ c.in_ok-read_reply.was _ c.false_clause.ensures _ c.in_ok-clause.was c.in-None.is

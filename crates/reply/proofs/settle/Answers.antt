@@ -1,8 +1,9 @@
 -- The loop turns one mark more into a value; a mark that is missing ends it.
-use Rattle.std.proofs.Common.{refl, ap, ◌∙◌, arith}
-use Rattle.lists.proofs.PlaceLaws.{first_zero}
+use Rattle.std.proofs.Common.{refl, sym, ap, ◌∙◌, length, arith}
+use Rattle.lists.specs.Places.{found}
+use Rattle.lists.proofs.PlaceLaws.{first_zero, found_some}
 use Rattle.lists.proofs.WritingLaws.{front_none}
-use Rattle.reply.proofs.BufferLaws.{now_false, now_true, none_missing, one_missing, gap_found}
+use Rattle.reply.proofs.BufferLaws.{now_false, now_true, none_missing, one_missing}
 use Rattle.reply.specs.Answers.{cleaned}
 use Rattle.reply.proofs.settle.Goals as goal
 use Rattle.reply.proofs.settle.Goals.{then-work-i-ne1, else-work-i-ne1}
@@ -15,7 +16,7 @@ returns-then-work-i-eq0-clause-found c =
     let w = c.args.work.now in
     let l = c.loop-i in
     let i = one_missing w l.work l.i (omega arith) l.invariant.turned _ c.loop-i-test.true l.invariant.some c.if-work-i-eq0.true in
-    gap_found w _ l.i c.loop-i-test.true i
+    sym (ap (found (length w)) (sym i) ∙ found_some (length w) l.i c.loop-i-test.true)
 
 pub returns-then-work-i-eq0-clause-buffer : goal.returns-then-work-i-eq0-clause-buffer
 returns-then-work-i-eq0-clause-buffer c =

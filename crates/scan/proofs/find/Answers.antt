@@ -1,14 +1,15 @@
 -- `find` gives the first entry that matches: none of those passed matches, and so far each byte of this one does.
 use Rattle.scan.specs.Names.{entry_is, lookup}
-use Rattle.lists.proofs.PlaceLaws.{first_zero, first_none, first_found}
+use Rattle.lists.specs.Places.{found}
+use Rattle.lists.proofs.PlaceLaws.{first_zero, first_none, first_found, found_some, found_none}
 use Rattle.lists.proofs.TestLaws.{all_none, all_next, all_fails}
 use Rattle.lists.specs.Rows.{num}
 use lib.Dec.{eqb}
-use borrow.Author.Tests.{eq-eqb, ne_eqb, lt-ltb, le-ltb}
+use borrow.Author.Tests.{eq-eqb, ne_eqb}
 use native.Mathlib.Omega.{arith}
 use mathlib.Core.List.{List}
 use mathlib.Core.Bool.{Bool, true}
-use mathlib.Core.Path.{◌≡◌, refl, sym, ◌∙◌}
+use mathlib.Core.Path.{◌≡◌, refl, sym, ap, ◌∙◌}
 use Prim.Native.Nat.{ℕ, ◌+◌, ◌*◌}
 use Rattle.scan.proofs.find.Goals as goal
 
@@ -46,7 +47,7 @@ returns-after-loop-j-clause-found c =
     let matches = entry_is a.names.now a.word.now in
     let whole : c.loop-j.j ≡ 4 = omega arith in
     let here = first_found matches i a.count c.entries.invariant (rw whole at c.loop-j.invariant) (omega arith) in
-    rw (here, lt-ltb i a.count (omega arith))
+    sym (ap (found a.count) here ∙ found_some a.count i (omega arith))
 
 pub returns-after-entries-clause-found : goal.returns-after-entries-clause-found
 unfolding lookup
@@ -54,4 +55,4 @@ returns-after-entries-clause-found c =
     let a = c.args in
     let matches = entry_is a.names.now a.word.now in
     let end : c.entries.i ≡ a.count = omega arith in
-    rw (rw end at c.entries.invariant, le-ltb a.count a.count (omega arith))
+    sym (ap (found a.count) (rw end at c.entries.invariant) ∙ found_none a.count)

@@ -1,7 +1,9 @@
 -- Within the limits the run has a line for each time; beyond them it has none.
 use mathlib.Core.Logic.{inl, inr}
+use Rattle.std.proofs.Common.{rules, ◌+◌, ◌*◌}
 use Rattle.text.proofs.GroupLaws.{long_bound, many_variables, within_limits}
 use Rattle.text.proofs.TextsLaws.{texts_none}
+use Rattle.job.specs.Table.{n}
 use Rattle.text.specs.RunText.{run_line}
 use Rattle.text.proofs.run_text.Goals as goal
 
@@ -14,4 +16,7 @@ returns-then-j-gt-BOUND c =
     ]
 
 pub returns : goal.returns
-returns c = rw (within_limits c.args.j c.if-j-gt-BOUND.false c.if-j-gt-STEPS.false) c.put_lines.ensures
+returns c =
+    let a = c.args in
+    rw (within_limits a.j c.if-j-gt-BOUND.false c.if-j-gt-STEPS.false)
+    (c.put_texts.ensures.value (30 + n a.j.program * 26 + 2 + 1) (run_line a.j a.run.now) (search rules))

@@ -4,19 +4,13 @@ use Rattle.lists.proofs.TestLaws.{is_within}
 use Rattle.tokens.proofs.NumberLaws.{digit_test, front_digit, front_other, front_none, scan_ends, scan_on, one_digit_more}
 use Rattle.tokens.proofs.digits.Goals as goal
 
-pub returns-then-not-is_ascii_digit-clause-count : goal.returns-then-not-is_ascii_digit-clause-count
-returns-then-not-is_ascii_digit-clause-count c =
+pub returns-then-not-is_ascii_digit : goal.returns-then-not-is_ascii_digit
+returns-then-not-is_ascii_digit c =
     let p = c.args.part.now in
     let l = c.loop-i in
     let other = digit_test _ ∙ sym c.is_ascii_digit.ensures.value ∙ c.if-not-is_ascii_digit.true in
-    (scan_ends p l.i l.value l.invariant.left l.invariant.writes (front_other p l.i c.loop-i-test.true other)).0
-
-pub returns-then-not-is_ascii_digit-clause-value : goal.returns-then-not-is_ascii_digit-clause-value
-returns-then-not-is_ascii_digit-clause-value c =
-    let p = c.args.part.now in
-    let l = c.loop-i in
-    let other = digit_test _ ∙ sym c.is_ascii_digit.ensures.value ∙ c.if-not-is_ascii_digit.true in
-    (scan_ends p l.i l.value l.invariant.left l.invariant.writes (front_other p l.i c.loop-i-test.true other)).1
+    let (count, value) = scan_ends p l.i l.value l.invariant.left l.invariant.writes (front_other p l.i c.loop-i-test.true other) in
+    record { within = omega arith; count = count; value = value }
 
 pub loop-i-preserved : goal.loop-i-preserved
 loop-i-preserved c =
@@ -30,15 +24,9 @@ loop-i-preserved c =
       small = rw (c.from.ensures, one_digit_more l.i) (omega (arith, is_within 48 57 (get_or p l.i 0) is_digit, l.invariant.small));
     }
 
-pub returns-clause-count : goal.returns-clause-count
-returns-clause-count c =
+pub returns : goal.returns
+returns c =
     let p = c.args.part.now in
     let l = c.loop-i in
-    let none = front_none p l.i (omega arith) in
-    omega (arith, (scan_ends p l.i l.value l.invariant.left l.invariant.writes none).0)
-
-pub returns-clause-value : goal.returns-clause-value
-returns-clause-value c =
-    let p = c.args.part.now in
-    let l = c.loop-i in
-    (scan_ends p l.i l.value l.invariant.left l.invariant.writes (front_none p l.i (omega arith))).1
+    let (count, value) = scan_ends p l.i l.value l.invariant.left l.invariant.writes (front_none p l.i (omega arith)) in
+    record { within = omega arith; count = omega (arith, count); value = value }

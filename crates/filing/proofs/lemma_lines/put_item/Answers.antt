@@ -1,15 +1,17 @@
--- The item is a step's, or a variable's.
-use Rattle.std.proofs.Common.{◌-◌, arith}
-use Rattle.put.proofs.NameLaws.{name_fits}
-use Rattle.filing.proofs.LineLaws.{item_label, item_name}
+-- The item is that of a step, or of a variable.
+use borrow.Author.Tests.{lt-ltb, le-ltb}
+use Rattle.put.proofs.PutLaws.{put_fits}
+use Rattle.form.specs.Form.{name_of}
 use Rattle.filing.proofs.lemma_lines.put_item.Goals as goal
 
-pub returns-then-x-m : goal.returns-then-x-m
-returns-then-x-m c =
-    let a = c.args in
-    rw (item_label a.labels.now a.names.now a.m a.x c.if-x-m.true) (name_fits a.labels.now a.x c.name.ensures c.requires)
+pub returns-then-item-steps : goal.returns-then-item-steps
+unfolding name_of
+returns-then-item-steps c =
+    let step = lt-ltb c.args.item c.args.job.now.program.steps c.if-item-steps.true in
+    rw step (put_fits c.name.ensures (rw step at c.requires))
 
-pub returns-else-x-m : goal.returns-else-x-m
-returns-else-x-m c =
-    let a = c.args in
-    rw (item_name a.labels.now a.names.now a.m a.x (omega arith)) (name_fits a.names.now (a.x - a.m) c.name-else-x-m.ensures c.requires)
+pub returns-else-item-steps : goal.returns-else-item-steps
+unfolding name_of
+returns-else-item-steps c =
+    let variable = le-ltb c.args.item c.args.job.now.program.steps c.if-item-steps.false in
+    rw variable (put_fits c.name-else-item-steps.ensures (rw variable at c.requires))

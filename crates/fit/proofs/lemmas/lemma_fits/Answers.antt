@@ -1,6 +1,5 @@
 -- A lemma fits by its length and then by its places.
-use Rattle.std.proofs.Common.{rules, arith}
-use Rattle.std.proofs.lemmas.Grind.{common_steps}
+use Rattle.std.proofs.Common.{rules}
 use Rattle.lists.specs.Tests.{every}
 use Rattle.job.specs.Fitness.{length_fits, places_fit, lemma_fits}
 use Rattle.fit.proofs.lemmas.lemma_fits.Goals as goal

@@ -16,10 +16,9 @@ held : (c : In-Ok) → let numbers = c.args.numbers.now in
 held c =
     let a = c.args in
     let piece = c.in-Ok.is in
-    let same = c.numbers-1.given in
     let room = length-take-le c.min-room.result a.numbers.now (omega (arith, c.min-room.ensures)) in
-    let within = piece_within a.j a.c _ _ _ (c.clauses.ensures.answer, c.clauses.ensures.buffer) _ piece (omega (arith, same, room)) in
-    rw length-append (omega (arith, same))
+    let within = piece_within a.j a.c _ _ _ (c.clauses.ensures.answer, c.clauses.ensures.buffer) _ piece (omega (arith, room)) in
+    rw length-append (omega arith)
 
 pub returns-in_default : goal.returns-in_default
 returns-in_default c =
@@ -42,6 +41,6 @@ returns c =
     let text = c.numbers_text-texted in
     rw (← room)
     (piece_text a.j a.c _ _ _ (given.answer, given.buffer) _ c.in-Ok.is
-    (omega (arith, c.numbers-1.given, lent (goal.at.returns c).After-min-room))
+    (omega (arith, lent (goal.at.returns c).After-min-room))
     _ a.out.now _ _ (text.ensures.value, text.ensures.count_value)
     (omega (arith, lent (goal.at.returns c).After-min-room, c.min-room.ensures)))

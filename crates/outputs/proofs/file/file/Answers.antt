@@ -18,5 +18,5 @@ pub invariant_of-result : goal.invariant_of-result
 invariant_of-result c =
     let form = c.file-form in
     let (size, bytes) = shows_prints _ _ _ _ _ _ (files c.args.text.now _ _ (omega arith) _ form.ensures) c.or_refusal-length.ensures in
-    let (within, _) = written_within _ _ (filed c.args.text.now) _ size bytes in
+    let within = written_within _ _ (filed c.args.text.now) _ size bytes in
     omega (arith, within)

@@ -1,9 +1,10 @@
 -- Where a time reads, the last step of each process that stands is the one that stands; two stores, the bits and a store behind them.
-use Rattle.std.proofs.Common.{◌≡◌, sym, ap, ◌∙◌, ℕ, ◌+◌, List, [], ◌∷◌, ◌++◌, length, set, arith}
-use lib.ListN.{length-set}
+use Rattle.std.proofs.Common.{◌≡◌, rules, sym, ap, ◌∙◌, ℕ, ◌+◌, ◌-◌, List, [], ◌∷◌, ◌++◌, length, set, eqb, arith}
+use lib.ListN.{take, drop, length-set, length-drop}
+use lib.Seq.{get_or-drop, length-take-le}
 use Rattle.lists.specs.Rows.{tab}
-use Rattle.lists.proofs.RowLaws.{length_tab}
-use Rattle.lists.proofs.WritingLaws.{row_begins, row_grows}
+use Rattle.lists.specs.Writing.{write}
+use Rattle.lists.proofs.RowLaws.{length_tab, tab_same}
 use Rattle.job.specs.Table.{A, B, m, n, w}
 use Rattle.job.specs.ReadOff.{byte}
 use Rattle.job.specs.Satisfaction.{value_at}
@@ -11,7 +12,7 @@ use Rattle.job.proofs.FitnessLaws.{fit_sizes}
 use Rattle.readoff.specs.Standing.{standing_in, front, number}
 use Rattle.readoff.proofs.SizeLaws.{items_within}
 use Rattle.readoff.proofs.StandingLaws.{some_weaker, length_items}
-use Rattle.readoff.proofs.ReadingLaws.{byte_is, whole_group, group_is}
+use Rattle.readoff.proofs.ReadingLaws.{part_write, whole_group, group_is}
 use Rattle.readoff.proofs.Values.put_group.Goals as goal
 use Rattle.readoff.proofs.Values.put_group.Goals.{After-items-items}
 
@@ -32,52 +33,36 @@ number-requires-2 c =
     let fit = c.args.self.now.fit.now in
     some_weaker _ _ _ (fit_sizes fit.job fit.fits).steps c.last_step-2.ensures.below
 
-pub loop-x-init : goal.loop-x-init
-loop-x-init c = row_begins _ 2 _
-
-pub overflow_add-p : goal.overflow_add-p
-overflow_add-p c =
-    let fit = c.args.self.now.fit.now in
-    let sizes = fit_sizes fit.job fit.fits in
-    omega (arith, sizes.steps, sizes.variables)
-
-pub bounds-items-p : goal.bounds-items-p
-bounds-items-p c = omega (arith, long (goal.at.bounds-items-p c).After-items-items)
-
-pub loop-x-preserved : goal.loop-x-preserved
-loop-x-preserved c =
-    let l = c.loop-x in
-    let p = c.args.self.now.fit.now.job.program in
-    let bit : ℕ → ℕ = λ x. byte (value_at c.items-items.result.now (p.steps + x)) in
-    let room = l.auto.part in
-    let first : List ℕ = set (set c.args.part.now 0 c.number.result) 1 c.number-2.result in
-    ap (λ (part : List ℕ). set part (2 + l.x) c.from.result) l.invariant
-    ∙ row_grows first 2 l.x bit c.from.result (c.from.ensures ∙ byte_is _)
-    (omega (
-      arith,
-      c.requires.room,
-      length-set (set c.args.part.now 0 c.number.result) 1 c.number-2.result,
-      length-set c.args.part.now 0 c.number.result,
-    ))
+pub split_at-requires : goal.split_at-requires
+split_at-requires c = omega (arith, long (goal.at.split_at-requires c).After-items-items)
 
 pub returns : goal.returns
 returns c =
     let v = c.args.self.now in
     let p = v.fit.now.job.program in
-    let l = c.loop-x in
     let items = c.items-items.result.now in
     let e = c.items-items.ensures in
-    let bits : List ℕ = tab l.x λ x. byte (value_at items (p.steps + x)) in
-    let last : l.x ≡ p.variables = omega arith in
-    let i = length_tab l.x (λ x. byte (value_at items (p.steps + x))) in
-    let whole = whole_group c.args.part.now c.number.result c.number-2.result c.turn_byte.result bits (omega (arith, c.requires.room))
-    l.part
-    l.invariant p.variables (sym last ∙ sym i) in
+    let first : List ℕ = set (set c.args.part.now 0 c.number.result) 1 c.number-2.result in
+    let room : length first ≡ n p + 3 = omega (
+      arith,
+      c.requires.room,
+      length-set (set c.args.part.now 0 c.number.result) 1 c.number-2.result,
+      length-set c.args.part.now 0 c.number.result,
+    ) in
+    let wide : length (take (2 + n p - 2) (drop 2 first)) ≡ n p =
+    length-take-le (2 + n p - 2) (drop 2 first) (omega (arith, length-drop 2 first)) ∙ omega arith in
+    let behind = c.split_at.result.1.now in
+    let row = c.put_bits.ensures (value_at behind) (λ x l b post. search rules) in
+    let bits = row ∙ ap (λ k. tab k (λ x. byte (value_at behind x))) wide
+    ∙ tab_same (n p) _ _ (λ x l. ap (λ (xs : List ℕ). byte (value_at xs x)) c.split_at.ensures.back
+    ∙ ap (λ v. byte (eqb v 1)) (get_or-drop (m p) items x 0)) in
+    let count = length_tab (n p) (λ x. byte (value_at items (m p + x))) in
+    let put = part_write first 2 (2 + n p - 2) c.put_bits.new.row (ap length bits ∙ count ∙ omega arith) ∙ ap (write first 2) bits in
+    let whole = whole_group c.args.part.now c.number.result c.number-2.result c.turn_byte.result _ (omega (arith, c.requires.room, count))
+    _ put (n p) (sym count) in
     let a = c.number.ensures ∙ ap number (c.last_step.ensures.last ∙ ap (λ (xs : List ℕ). front (standing_in p xs A (m p))) e) in
     let b = c.number-2.ensures ∙ ap number (c.last_step-2.ensures.last ∙ ap (λ (xs : List ℕ). front (standing_in p xs B (m p))) e) in
     whole
-    ∙ ap (λ (k : ℕ). (c.number.result ∷ c.number-2.result ∷ tab k λ x. byte (value_at items (p.steps + x)))
-    ++ (c.turn_byte.result ∷ [])) last
     ∙ ap (λ (xs : List ℕ). (c.number.result ∷ c.number-2.result ∷ tab (n p) λ x. byte (value_at xs (p.steps + x)))
     ++ (c.turn_byte.result ∷ [])) e
     ∙ group_is p v.bytes.now c.args.t c.requires.time v.enough c.requires.reads _ _ _ a b c.turn_byte.ensures

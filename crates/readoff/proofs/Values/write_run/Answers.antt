@@ -5,7 +5,7 @@ use Rattle.lists.specs.Rows.{each}
 use Rattle.lists.proofs.TestLaws.{all_at}
 use Rattle.lists.proofs.WritingLaws.{parts_begin}
 use Rattle.job.specs.ReadOff.{reads_at, run_read, group, run_bytes}
-use Rattle.readoff.proofs.ReadingLaws.{groups_grow}
+use Rattle.readoff.proofs.ReadingLaws.{length_group, length_groups, row_put}
 use Rattle.readoff.proofs.Values.write_run.Goals as goal
 
 pub loop-t-init : goal.loop-t-init
@@ -21,8 +21,13 @@ pub loop-t-preserved : goal.loop-t-preserved
 loop-t-preserved c =
     let v = c.args.self.now in
     let p = v.fit.now.job.program in
-    groups_grow p v.bytes.now c.args.run.now c.requires.room c.loop-t.t (omega arith) c.loop-t.run c.loop-t.invariant _ (omega arith) _
-    c.put_group.ensures
+    let t = c.loop-t.t in
+    let groups = group p (run_read p v.bytes.now) in
+    let all = length_groups p v.bytes.now (suc p.bound) (omega arith) in
+    let before = length_groups p v.bytes.now t (omega arith) in
+    let one = length_group p v.bytes.now t (omega arith) in
+    row_put c.args.run.now c.loop-t.run groups t (suc p.bound) (omega arith) (omega (arith, c.requires.room)) c.loop-t.invariant _ _
+    (omega arith) (omega arith) _ c.put_group.ensures
 
 pub returns : goal.returns
 unfolding run_bytes

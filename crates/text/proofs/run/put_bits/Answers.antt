@@ -1,7 +1,7 @@
 -- The texts of the bits before x stand one behind the other.
-use Rattle.std.proofs.Common.{◌≡◌, ◌+◌, arith}
+use Rattle.std.proofs.Common.{◌+◌, arith}
 use Rattle.lists.specs.Rows.{num}
-use Rattle.put.proofs.PutLaws.{row_none, row_next, put_room}
+use Rattle.put.proofs.PutLaws.{row_none, row_next}
 use Rattle.text.specs.RunText.{bit_text}
 use Rattle.text.proofs.run.put_bits.Goals as goal
 
@@ -10,18 +10,9 @@ loop-x-init c =
     let a = c.args in
     row_none 26 (λ x. bit_text a.names.now x (num a.group.now (2 + x))) a.page.now
 
-pub put_bit-requires : goal.put_bit-requires
-put_bit-requires c = put_room 26 c.loop-x.invariant (omega (arith, c.requires.0))
-
 pub loop-x-preserved : goal.loop-x-preserved
 loop-x-preserved c =
     let a = c.args in
     let o = c.loop-x in
     let bit = rw c.get_or.ensures at c.put_bit.ensures in
     row_next 26 (λ x. bit_text a.names.now x (num a.group.now (2 + x))) a.page.now o.x o.invariant bit (omega (arith, c.requires.0))
-
-pub returns : goal.returns
-returns c =
-    let o = c.loop-x in
-    let e : o.x ≡ c.args.n = omega arith in
-    rw e at o.invariant

@@ -5,16 +5,16 @@ use Rattle.put.proofs.PutLaws.{put_fits, put_none, put_most}
 use Rattle.text.specs.RunText.{turn_text}
 use Rattle.text.proofs.run.put_turn.Goals as goal
 
-pub returns-in-1 : goal.returns-in-1
+pub returns-then-b : goal.returns-then-b
 unfolding turn_text
-returns-in-1 c = rw c.in-1.is (put_fits c.part.ensures c.requires)
+returns-then-b c = rw c.if-b.true (put_fits c.part.ensures c.requires)
 
-pub returns-in-2 : goal.returns-in-2
+pub returns-then-b-2 : goal.returns-then-b-2
 unfolding turn_text
-returns-in-2 c = rw c.in-2.is (put_fits c.part-in-2.ensures c.requires)
+returns-then-b-2 c = rw c.if-b-2.true (put_fits c.part-then-b-2.ensures c.requires)
 
-pub returns-in_default : goal.returns-in_default
+pub returns-else-b-2 : goal.returns-else-b-2
 unfolding turn_text
-returns-in_default c =
+returns-else-b-2 c =
     let b = c.args.b in
-    rw (ne_eqb b 1 (omega arith), ne_eqb b 2 (omega arith)) (put_most (put_none c.args.page.now) (omega arith))
+    rw (ne_eqb b 1 c.if-b.false, ne_eqb b 2 c.if-b-2.false) (put_most (put_none c.args.page.now) (omega arith))

@@ -1,2 +1,0 @@
--- The truth of a clause that is given by its numbers.
-pub mod Truth
