@@ -27,10 +27,10 @@ use Rattle.lines.specs.StepLine.{code_of}
 use Rattle.lines.specs.declared.Step.{Step}
 use Rattle.lines.proofs.ShapeLaws.{Shape, step_shaped, bound_ranged}
 use Rattle.program.specs.Draft.{blank, process_of, mention_at, mention, enter, add_step}
-use Rattle.program.specs.ProgramLine.{stepped, line_of}
+use Rattle.program.specs.ProgramLine.{stepped, line_of, draft_of}
 use Rattle.program.specs.Program.{program_of}
 use Rattle.program.specs.declared.Draft.{Draft}
-use Rattle.program.proofs.ProgramLineLaws.{draft_of, line_all}
+use Rattle.program.proofs.ProgramLineLaws.{line_all}
 use Rattle.program.proofs.ReachedLaws.{Reached, reached}
 use Rattle.program.proofs.PutLaws.{Put, put_set, put_none, same_at}
 

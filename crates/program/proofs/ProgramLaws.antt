@@ -1,8 +1,9 @@
 -- Laws of the program part: one line and the rest, and line 1.
 use mathlib.Core.Path.{◌≡◌, refl}
+use mathlib.Core.Bool.{true, false}
 use mathlib.Core.List.{List, [], ◌∷◌}
 use Prim.Native.Nat.{ℕ, ◌+◌}
-use Rattle.std.specs.Prelude.{Option, Result, Ok, Err}
+use Rattle.std.specs.Prelude.{Option, Some, None, Result, Ok, Err}
 use lib.ListN.{length}
 use Rattle.job.specs.Faults.{refusal_at}
 use Rattle.job.specs.declared.refusal.Fault.{Fault}
@@ -13,9 +14,10 @@ use Rattle.fields.specs.Fields.{whole_line}
 use Rattle.lines.specs.FirstLine.{first_line, code_of}
 use Rattle.lines.specs.declared.FirstLine.{FirstLine}
 use Rattle.program.specs.Draft.{blank}
-use Rattle.program.specs.ProgramLine.{line_of}
-use Rattle.program.specs.Program.{placed, follow, program, opened, whole, from_line1}
+use Rattle.program.specs.ProgramLine.{line_of, goes_on, draft_of}
+use Rattle.program.specs.Program.{reached, placed, follow, program, opened, whole, from_line1}
 use Rattle.program.specs.declared.Draft.{Draft}
+use Rattle.program.specs.declared.ProgramPart.{ProgramPart}
 
 -- ---- what is read of a line, at its number
 
@@ -31,11 +33,39 @@ placed_err n (Err fault) w e = (fault, refl, cc)
 -- ---- program lines
 
 -- the first line, which ends before e, and the rest
-pub program_turn : (d : Draft) (at n : ℕ) (l : Row) (ls : List Row) (e : ℕ) (r : Result (Option Draft) Fault)
-    → at + length l.bytes + 1 ≡ e → r ≡ line_of d l (n + 1)
-    → program d at n (l ∷ ls) ≡ follow r d (n + 1) e λ x. program x e (n + 1) ls
+pub program_turn : (d : Draft) (at n : ℕ) (l : Row) (ls : List Row) (e : ℕ) → at + length l.bytes + 1 ≡ e
+    → program d at n (l ∷ ls) ≡ follow (line_of d l (n + 1)) d (n + 1) e λ x. program x e (n + 1) ls
 unfolding program
-program_turn d at n l ls e r k h = rw (k, h)
+program_turn d at n l ls e k = rw k
+
+-- behind a line, by whether lines go on, and with the draft then
+module _ (r : Result (Option Draft) Fault) (d : Draft) (n at : ℕ) (more : Draft → Result ProgramPart Refusal) where
+  pub follow_more : Ok true ≡ goes_on r → follow r d n at more ≡ more (draft_of r d)
+  unfolding follow
+  follow_more e = go r e
+    where
+      go : (r : Result (Option Draft) Fault) → Ok true ≡ goes_on r → follow r d n at more ≡ more (draft_of r d)
+      go (Ok (Some e)) h = refl
+      go (Ok None) h = cc
+      go (Err fault) h = cc
+
+  pub follow_lemmas : Ok false ≡ goes_on r → follow r d n at more ≡ Ok (reached n at (draft_of r d))
+  unfolding follow
+  follow_lemmas e = go r e
+    where
+      go : (r : Result (Option Draft) Fault) → Ok false ≡ goes_on r → follow r d n at more ≡ Ok (reached n at (draft_of r d))
+      go (Ok (Some e)) h = cc
+      go (Ok None) h = refl
+      go (Err fault) h = cc
+
+  pub follow_fault : (fault : Fault) → Err fault ≡ goes_on r → follow r d n at more ≡ Err (refusal_at fault n)
+  unfolding follow
+  follow_fault fault e = go r e
+    where
+      go : (r : Result (Option Draft) Fault) → Err fault ≡ goes_on r → follow r d n at more ≡ Err (refusal_at fault n)
+      go (Ok (Some e)) h = cc
+      go (Ok None) h = cc
+      go (Err other) h = cc
 
 pub program_none : (d : Draft) (at n : ℕ) → program d at n [] ≡ Err (refusal_at NoLemmas (n + 1))
 unfolding program

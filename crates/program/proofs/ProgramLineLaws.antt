@@ -13,15 +13,9 @@ use Rattle.fields.specs.Fields.{whole_line}
 use Rattle.job.specs.declared.refusal.Fault.TheVariants.{ManySteps}
 use Rattle.lines.specs.StepLine.{step_line}
 use Rattle.lines.specs.declared.Step.{Step}
-use Rattle.program.specs.ProgramLine.{is_lemmas, is_comment, stepped, program_line, whole, line_of}
+use Rattle.program.specs.ProgramLine.{is_lemmas, is_comment, stepped, program_line, whole, line_of, draft_of}
 use Rattle.program.specs.declared.Draft.{Draft}
 use Rattle.program.proofs.DraftLaws.{Within, added}
-
--- the draft behind a line: a new one, or that before it
-abbrev pub draft_of : Result (Option Draft) Fault → Draft → Draft
-draft_of (Ok (Some e)) d = e
-draft_of (Ok None) d = d
-draft_of (Err fault) d = d
 
 -- what holds of every way out of a line
 pub line_all : (P : Result (Option Draft) Fault → Type 0) (d : Draft) (l : Row) (n : ℕ)

@@ -19,12 +19,12 @@ use Rattle.job.specs.declared.refusal.Fault.TheVariants.{TextSize}
 use Rattle.lines.specs.FirstLine.{code_of}
 use Rattle.lines.specs.declared.FirstLine.{FirstLine}
 use Rattle.program.specs.Draft.{blank}
-use Rattle.program.specs.ProgramLine.{line_of}
+use Rattle.program.specs.ProgramLine.{line_of, draft_of}
 use Rattle.program.specs.Program.{follow, program, opened, whole, from_line1, program_of}
 use Rattle.program.specs.declared.Draft.{Draft}
 use Rattle.program.specs.declared.ProgramPart.{ProgramPart}
 use Rattle.program.proofs.DraftLaws.{Within, blank_within}
-use Rattle.program.proofs.ProgramLineLaws.{draft_of, line_kept}
+use Rattle.program.proofs.ProgramLineLaws.{line_kept}
 
 -- of a program part that reaches `lemmas`
 abbrev pub Reached : (Draft → ℕ → ℕ → Type 0) → Result ProgramPart Refusal → Type 0

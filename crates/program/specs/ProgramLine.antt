@@ -1,5 +1,5 @@
 -- One program line (document 01, 'The job text'): `lemmas`, a comment, or a step.
-use Rattle.std.specs.Prelude.{ℕ, Bool, cond, ◌&&◌, List, [], ◌∷◌, eqb, leb, length, Option, Some, None, Result, Ok, Err}
+use Rattle.std.specs.Prelude.{ℕ, Bool, true, false, cond, ◌&&◌, List, [], ◌∷◌, eqb, leb, length, Option, Some, None, Result, Ok, Err}
 use Rattle.job.specs.Limits.{max_steps}
 use Rattle.lists.specs.Pieces.{starts}
 use Rattle.scan.specs.Lines.{Row}
@@ -41,3 +41,15 @@ whole (Err fault) rest = Err fault
 
 abbrev pub line_of : Draft → Row → ℕ → Result (Option Draft) Fault
 line_of d l n = whole (whole_line l) (program_line d l.bytes n)
+
+-- whether lines go on behind a line, as they do but at `lemmas`
+abbrev pub goes_on : Result (Option Draft) Fault → Result Bool Fault
+goes_on (Ok (Some e)) = Ok true
+goes_on (Ok None) = Ok false
+goes_on (Err fault) = Err fault
+
+-- the draft behind a line: a new one, or that before it
+abbrev pub draft_of : Result (Option Draft) Fault → Draft → Draft
+draft_of (Ok (Some e)) d = e
+draft_of (Ok None) d = d
+draft_of (Err fault) d = d

@@ -6,7 +6,7 @@ ghost use Rattle.job.specs.Limits.{max_steps, max_text};
 ghost use Rattle.scan.specs.Lines.{lines, size};
 ghost use Rattle.scan.specs.Iterating.{row_of, lines_left};
 ghost use Rattle.program.specs.Draft.{put4, blank as blank_draft, mention as mention_word, process_of, enter as enter_step, add_step};
-ghost use Rattle.program.specs.ProgramLine.{is_lemmas, is_comment, program_line, line_of};
+ghost use Rattle.program.specs.ProgramLine.{is_lemmas, is_comment, program_line, line_of, goes_on, draft_of};
 ghost use Rattle.program.specs.Program.{placed, program as program_from, from_line1, program_of};
 
 use fields::Cursor;
@@ -144,27 +144,27 @@ pub fn is_comment(s: &[u8]) -> bool
     s.starts_with(b"~")
 }
 
-// Line n, which has passed 2, 3, 4: the draft that the next line goes on with, or none at `lemmas`.
+// Line n, which has passed 2, 3, 4, is entered into the draft, which stays where it is: whether lines go on, as they do but at `lemmas`.
 #[tactic(auto, unfolding(crate::specs::ProgramLine::program_line, crate::specs::ProgramLine::stepped))]
-fn program_line(draft: Draft, s: &[u8], n: usize) -> Result<Option<Draft>, Fault>
-    requires within { draft.program.variables ≤ draft.program.steps }
-    requires few { draft.program.steps ≤ max_steps }
-    ensures { result ≡ program_line draft s.now n }
+fn program_line(draft: &mut Draft, s: &[u8], n: usize) -> Result<bool, Fault>
+    requires within { draft.old.program.variables ≤ draft.old.program.steps }
+    requires few { draft.old.program.steps ≤ max_steps }
+    ensures more { result ≡ goes_on (program_line draft.old s.now n) }
+    ensures entered { draft.new ≡ draft_of (program_line draft.old s.now n) draft.old }
 {
     if is_lemmas(s) {
-        return Ok(None);
+        return Ok(false);
     }
     if is_comment(s) {
-        return Ok(Some(draft));
+        return Ok(true);
     }
     let k = draft.program.steps;
     if Job::STEPS <= k {
         return Err(Fault::ManySteps);
     }
     let step = lines::step_line(&draft.labels, k, s, Cursor { line: n, column: 0 })?;
-    let mut more = draft;
-    more.add_step(s, step, n);
-    Ok(Some(more))
+    draft.add_step(s, step, n);
+    Ok(true)
 }
 
 // What is read of line n, or the refusal of its fault there.
@@ -176,10 +176,11 @@ pub fn at_line<T>(read: Result<T, Fault>, n: usize) -> Result<T, Refusal>
 
 // Line n, whose LF is there or not.
 #[tactic(auto, unfolding(crate::specs::ProgramLine::whole))]
-fn line_of(draft: Draft, line: Line, n: usize) -> Result<Option<Draft>, Fault>
-    requires within { draft.program.variables ≤ draft.program.steps }
-    requires few { draft.program.steps ≤ max_steps }
-    ensures { result ≡ line_of draft (row_of line.entry) n }
+fn line_of(draft: &mut Draft, line: Line, n: usize) -> Result<bool, Fault>
+    requires within { draft.old.program.variables ≤ draft.old.program.steps }
+    requires few { draft.old.program.steps ≤ max_steps }
+    ensures more { result ≡ goes_on (line_of draft.old (row_of line.entry) n) }
+    ensures entered { draft.new ≡ draft_of (line_of draft.old (row_of line.entry) n) draft.old }
 {
     fields::line(line.bytes, line.ended)?;
     program_line(draft, line.bytes, n)
@@ -200,10 +201,10 @@ fn program_lines(lines: Lines, from: usize, start: Draft) -> Result<ProgramPart,
     for line in lines {
         n += 1;
         at += line.bytes.len() + 1;
-        let Some(more) = at_line(line_of(draft, line, n), n)? else {
+        let more = at_line(line_of(&mut draft, line, n), n)?;
+        if !more {
             return Ok(ProgramPart { draft, line: n, at });
-        };
-        draft = more;
+        }
     }
     Err(Fault::NoLemmas.at(n + 1))
 }
