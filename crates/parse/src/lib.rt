@@ -10,7 +10,7 @@ ghost use Rattle.job.specs.Table.{first_of};
 ghost use Rattle.scan.specs.Lines.{lines};
 ghost use Rattle.scan.specs.Iterating.{row_of};
 ghost use Rattle.program.specs.Program.{program_of};
-ghost use Rattle.parse.specs.Answers.{forgotten, table_of, without_lemmas};
+ghost use Rattle.parse.specs.Answers.{forgotten, zeros as no_table, table_of, without_lemmas};
 ghost use Rattle.parse.specs.Labels.{aim as aim_of, link_step, link as link_all, at_lemmas};
 ghost use Rattle.parse.specs.Lemmas.{signed as signed_item, words, lemma, lemma_line, lemma_lines};
 ghost use Rattle.parse.specs.Reading.{from_lemmas, reading, read_job};
@@ -214,10 +214,20 @@ pub fn read(text: &[u8]) -> Result<Job, Refusal>
     from_lemmas(text, &part)
 }
 
+// The table of zeros: a function of its own, so that none is made for an accepted job.
+fn zeros() -> Job
+    ensures { result ≡ no_table }
+{
+    let draft = Draft::blank(0, Word::Free as u8);
+    without_lemmas(&draft, draft.program)
+}
+
 // 'a refused job gives one of zeros': the table for a caller that is given one either way.
 pub fn table_of(read: &Result<Job, Refusal>) -> Job
     ensures { result ≡ table_of read.now }
 {
-    let draft = Draft::blank(0, Word::Free as u8);
-    read.unwrap_or(without_lemmas(&draft, draft.program))
+    match read {
+        Ok(job) => *job,
+        Err(_) => zeros(),
+    }
 }

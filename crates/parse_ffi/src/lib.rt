@@ -84,14 +84,13 @@ impl From<Result<Job, Refusal>> for Answer {
     ghost from_gives = { IsInC };
 
     fn from(read: Result<Job, Refusal>) -> Answer {
-        let flat = Answer::from(parse::table_of(&read));
         match read {
-            Ok(_) => flat,
+            Ok(table) => Answer::from(table),
             Err(refusal) => Answer {
                 accepted: false,
                 number: refusal.fault.number(),
                 place: refusal.place,
-                ..flat
+                ..Answer::from(parse::table_of(&read))
             },
         }
     }
