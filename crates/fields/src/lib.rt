@@ -198,6 +198,7 @@ pub fn step_end(s: &[u8], at: Cursor) -> Result<Cursor, Fault>
 }
 
 // What is left of the line is this word.
+#[tactic(auto, unfolding(lists::specs::Pieces::is), using(lists::proofs::PieceLaws::is_equal))]
 pub fn rest_is(s: &[u8], column: usize, w: &[u8]) -> bool
     ensures { result ≡ is w.now (drop column s.now) }
 {
