@@ -3,13 +3,13 @@ use mathlib.Core.Path.{◌≡◌, refl, sym, ap, ◌∙◌, subst}
 use mathlib.Core.Bool.{Bool, true, false, cond, and-true}
 use mathlib.Core.List.{List, [], ◌∷◌}
 use Rattle.std.specs.Prelude.{Option, Some, None, Result, Ok, Err}
-use Prim.Native.Nat.{ℕ, suc, ◌+◌, ◌≤◌, ◌<◌}
+use Prim.Native.Nat.{ℕ, suc, ◌+◌, ◌-◌, ◌≤◌, ◌<◌}
 use native.Mathlib.Omega.{arith}
 use native.Mathlib.Decide.{dec_lt}
 use native.Mathlib.Numerals.{add-one}
-use borrow.Author.Tests.{ne_eqb, le-leb, lt-leb}
-use lib.Dec.{eqb, leb}
-use lib.ListN.{length, get_or, drop, drop_of_length-le}
+use borrow.Author.Tests.{ne_eqb, le-leb, lt-leb, lt-ltb, le-ltb}
+use lib.Dec.{eqb, leb, ltb}
+use lib.ListN.{length, get_or, take, drop, length-drop, drop_of_length-le}
 use lib.Seq.{drop-cons, drop-drop, take_all}
 use Rattle.lists.specs.Rows.{num}
 use Rattle.lists.specs.Tests.{within}
@@ -22,10 +22,11 @@ use Rattle.job.specs.declared.refusal.Fault.{Fault}
 use Rattle.job.specs.declared.refusal.Fault.TheVariants.{NameUnknown, ManyNames}
 use Rattle.job.specs.declared.refusal.Refusal.{Refusal}
 use Rattle.scan.specs.Bytes.{word_at}
-use Rattle.scan.specs.Lines.{Row}
+use Rattle.scan.specs.Lines.{Row, row, lines}
 use Rattle.scan.specs.Names.{lookup}
 use Rattle.scan.proofs.NameLaws.{lookup_below}
 use Rattle.scan.proofs.WordLaws.{word_length}
+use Rattle.scan.proofs.LineLaws.{lines_first}
 use Rattle.fields.specs.Fields.{whole_line}
 use Rattle.items.specs.Items.{named_at, named_in, known_in, item_field}
 use Rattle.items.specs.declared.Name.{Name}
@@ -177,10 +178,30 @@ pub lines_none : (j : Job) (n : ℕ) → lemma_lines j n [] ≡ Ok j
 unfolding lemma_lines
 lines_none j n = refl
 
-pub lines_turn : (j : Job) (n : ℕ) (l : Row) (ls : List Row) (r : Result Job Refusal) → r ≡ lemma_line j l (n + 1)
+pub lines_next : (j : Job) (n : ℕ) (l : Row) (ls : List Row) (r : Result Job Refusal) → r ≡ lemma_line j l (n + 1)
     → lemma_lines j n (l ∷ ls) ≡ then r λ x. lemma_lines x (n + 1) ls
 unfolding lemma_lines
-lines_turn j n l ls r e = rw e
+lines_next j n l ls r e = rw e
+
+-- the line that begins at at, and ends at e, in the text
+lines_at : (text : List ℕ) (at e : ℕ) → at < length text → e ≡ at + length (word_at 10 text at)
+    → lines (drop at text) ≡ row (take (e - at) (drop at text)) (ltb e (length text)) ∷ lines (drop (e + 1) text)
+lines_at text at e l k =
+    let first = lines_first (drop at text) (e - at) (omega (arith, length-drop at text)) (omega arith) in
+    let behind : drop (e - at + 1) (drop at text) ≡ drop (e + 1) text =
+    drop-drop (e - at + 1) at text ∙ ap (λ (n : ℕ). drop n text) (omega arith) in
+    first ∙ rw (behind, ended (dec_lt e (length text))) refl
+  where
+    ended : Dec (e < length text) → ltb (e - at) (length (drop at text)) ≡ ltb e (length text)
+    ended (yes h) = rw (lt-ltb e (length text) h) (lt-ltb (e - at) (length (drop at text)) (omega (arith, length-drop at text)))
+    ended (no h) =
+        rw (le-ltb e (length text) (omega arith)) (le-ltb (e - at) (length (drop at text)) (omega (arith, length-drop at text)))
+
+pub lines_turn : (j : Job) (n : ℕ) (text : List ℕ) (at e : ℕ) → at < length text → e ≡ at + length (word_at 10 text at)
+    → lemma_lines j n (lines (drop at text))
+    ≡ then (lemma_line j (row (take (e - at) (drop at text)) (ltb e (length text))) (n + 1))
+    λ x. lemma_lines x (n + 1) (lines (drop (e + 1) text))
+lines_turn j n text at e l k = ap (lemma_lines j n) (lines_at text at e l k) ∙ lines_next j n _ _ _ refl
 
 -- ---- lemmas leave the program as it is
 

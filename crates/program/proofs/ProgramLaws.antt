@@ -71,6 +71,14 @@ pub program_none : (d : Draft) (at n : ℕ) → program d at n [] ≡ Err (refus
 unfolding program
 program_none d at n = refl
 
+-- a line after which no program line is read
+pub not_more : (r : Result (Option Draft) Fault) → (goes_on r ≡ Ok true → ⊥) → (d : Draft) (n at : ℕ)
+    (k k' : Draft → Result ProgramPart Refusal) → follow r d n at k ≡ follow r d n at k'
+unfolding follow
+not_more (Ok (Some e)) h d n at k k' = absurd (h refl)
+not_more (Ok None) h d n at k k' = refl
+not_more (Err fault) h d n at k k' = refl
+
 -- line 1, by what is read of it, and the rest
 pub line_1 : (l : Row) (ls : List Row) (r : Result (Unit {0}) Fault) (f : Result FirstLine Fault)
     → r ≡ whole_line l → f ≡ first_line l.bytes (record { line = 1; column = 0 })

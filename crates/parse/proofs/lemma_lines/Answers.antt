@@ -3,7 +3,7 @@ use Rattle.std.specs.Prelude.{Result, Err}
 use Rattle.std.proofs.Common.{rules}
 use Rattle.job.specs.declared.Job.{Job}
 use Rattle.job.specs.declared.refusal.Refusal.{Refusal}
-use Rattle.parse.proofs.LemmaLaws.{lines_none, lines_turn, line_same}
+use Rattle.parse.proofs.LemmaLaws.{lines_none, lines_next, line_same}
 use Rattle.parse.proofs.AnswerLaws.{Holds}
 use Rattle.parse.specs.Lemmas.{lemma_lines}
 use Rattle.parse.specs.Answers.{then}
@@ -49,7 +49,7 @@ turn c =
     let at : c.args.before + l.i-iterator.count ≡ n = ap (λ k. c.args.before + k) (sym c.in-Some.ensures.steps.1) in
     l.invariant.2.same ∙ ap (λ k. lemma_lines l.job k (lines_left l.i-iterator.iter)) at
     ∙ ap (lemma_lines l.job n) c.in-Some.ensures.steps.0
-    ∙ lines_turn l.job n (row_of c.in-Some.line) (lines_left c.next.new.self.iter) c.lemma_line.result c.lemma_line.ensures
+    ∙ lines_next l.job n (row_of c.in-Some.line) (lines_left c.next.new.self.iter) c.lemma_line.result c.lemma_line.ensures
 
 pub loop-i-init : goal.loop-i-init
 loop-i-init c =
