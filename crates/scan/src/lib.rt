@@ -59,7 +59,10 @@ fn entry_at(names: &[u8], i: usize, j: usize) -> u8
     requires { j < 4 }
     ensures { result ≡ num names.now (i * 4 + j) }
 {
-    get_or(names, i.saturating_mul(4).saturating_add(j), 0)
+    if names.len() / 4 < i {
+        return 0;
+    }
+    get_or(names, i * 4 + j, 0)
 }
 
 // The first of count names that is this word.
@@ -67,10 +70,17 @@ pub fn find(names: &[u8], count: usize, word: &[u8]) -> Option<usize>
     ensures found { result ≡ lookup names.now count word.now }
     ensures below { IfSome result (λ i. i < count) }
 {
+    // Taken once, and not at each entry.
+    let bytes = [
+        get_or(word, 0, 0),
+        get_or(word, 1, 0),
+        get_or(word, 2, 0),
+        get_or(word, 3, 0),
+    ];
     'names: {
         'entries: for i in 0..count {
             for j in 0..4 {
-                if entry_at(names, i, j) != get_or(word, j, 0) {
+                if entry_at(names, i, j) != bytes[j] {
                     continue 'entries;
                 }
             }
