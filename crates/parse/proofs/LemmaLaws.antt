@@ -201,7 +201,8 @@ pub lines_turn : (j : Job) (n : ℕ) (text : List ℕ) (at e : ℕ) → at < len
     → lemma_lines j n (lines (drop at text))
     ≡ then (lemma_line j (row (take (e - at) (drop at text)) (ltb e (length text))) (n + 1))
     λ x. lemma_lines x (n + 1) (lines (drop (e + 1) text))
-lines_turn j n text at e l k = ap (lemma_lines j n) (lines_at text at e l k) ∙ lines_next j n _ _ _ refl
+unfolding lemma_lines
+lines_turn j n text at e l k = ap (lemma_lines j n) (lines_at text at e l k)
 
 -- ---- lemmas leave the program as it is
 
