@@ -29,8 +29,10 @@ pub struct Word {
     pub ended: bool,
 }
 
-// The line that starts at a place.
+// The line that starts at a place. It is a part of `next_line`, and that of the loop that reads lines: a call of its own costs as much as
+// reading a short line.
 #[tactic(auto, using(lists::proofs::PieceLaws::take_up_to))]
+#[inline(always)]
 fn line_at<'a>(text: &'a [u8], at: usize, number: usize) -> Line<'a>
     requires { at ≤ length text.now }
     ensures number { result.number ≡ number }
@@ -90,6 +92,7 @@ impl<'a> Reader<'a> {
     }
 
     // The line that starts here. The place moves behind its LF, or to the end.
+    #[inline(always)]
     pub fn next_line(&mut self) -> Line<'a>
         ensures number { result.number ≡ self.old.line }
         ensures text { result.text.now ≡ up_to 10 (ahead self.old) }

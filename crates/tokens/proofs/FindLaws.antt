@@ -1,5 +1,7 @@
 -- How many bytes stand in front of the first such byte, by where that is.
-use Rattle.std.proofs.Common.{◌≡◌, refl, ℕ, zero, suc, ◌<◌, Some, None, List, [], ◌∷◌, length, get_or, ap, arith}
+use Rattle.std.proofs.Common.{◌≡◌, refl, ℕ, zero, suc, ◌<◌, Some, None, ◌+◌, List, [], ◌∷◌, length, get_or, drop, sym, ap, ◌∙◌, arith}
+use native.Mathlib.Numerals.{add-one}
+use lib.Seq.{drop-cons}
 use borrow.Author.Tests.{eq-eqb, ne_eqb, eqb-true}
 use Rattle.memchr.specs.Find.{IsFirstByte, is_byte}
 use Rattle.lists.specs.Pieces.{up_to}
@@ -23,3 +25,16 @@ length_up_to_first k xs n h =
 
 pub length_up_to_none : (k : ℕ) (xs : List ℕ) → IsFirstByte (is_byte k) xs None → length (up_to k xs) ≡ length xs
 length_up_to_none k xs h = up_to_all k xs (λ j l e. h j (omega arith) l (eq-eqb _ _ e))
+
+-- the search at i: what is left of it
+module _ (k : ℕ) (xs : List ℕ) (i : ℕ) (h : i < length xs) where
+  here : drop i xs ≡ get_or xs i 0 ∷ drop (i + 1) xs
+  here = drop-cons xs i 0 h ∙ ap (λ (j : ℕ). get_or xs i 0 ∷ drop j xs) (sym (add-one i))
+
+  pub byte_found : get_or xs i 0 ≡ k → length (up_to k (drop i xs)) ≡ 0
+  unfolding up_to
+  byte_found e = rw (here, eq-eqb (get_or xs i 0) k e)
+
+  pub byte_passed : (get_or xs i 0 ≡ k → ⊥) → length (up_to k (drop i xs)) ≡ suc (length (up_to k (drop (i + 1) xs)))
+  unfolding up_to
+  byte_passed n = rw (here, ne_eqb (get_or xs i 0) k n)

@@ -37,9 +37,9 @@ pub struct FirstWord {
     pub length: usize,
 }
 
-// How many bytes stand in front of the first such byte; all of them where there is none.
+// How many bytes stand in front of the first such byte; all of them where there is none. This is for a byte that may stand far on.
 #[tactic(auto, using(crate::proofs::FindLaws::length_up_to_first, crate::proofs::FindLaws::length_up_to_none))]
-pub fn length_up_to(byte: u8, text: &[u8]) -> usize
+fn length_up_to_far(byte: u8, text: &[u8]) -> usize
     ensures value { result ≡ length (up_to byte text.now) }
     ensures within { result ≤ length text.now }
 {
@@ -49,11 +49,35 @@ pub fn length_up_to(byte: u8, text: &[u8]) -> usize
     }
 }
 
+// So many bytes are looked at one by one before `memchr` is called, which tests 64 bytes before it answers, however near the byte stands:
+// by it alone, lines of two bytes take two to three times as long. Lines of more bytes than these are quicker by `memchr`.
+const NEAR: usize = 32;
+
+// How many bytes stand in front of the first such byte; all of them where there is none. It is a part of what calls it, so that a short
+// line costs no call.
+#[inline(always)]
+pub fn length_up_to(byte: u8, text: &[u8]) -> usize
+    ensures value { result ≡ length (up_to byte text.now) }
+    ensures within { result ≤ length text.now }
+{
+    if text.len() < NEAR {
+        return length_up_to_far(byte, text);
+    }
+    for i in 0..NEAR {
+        if text[i] == byte {
+            return i;
+        }
+    }
+    NEAR + length_up_to_far(byte, &text[NEAR..])
+}
+
 const SATISFIABLE: &[u8] = b"s SATISFIABLE";
 
 const UNSATISFIABLE: &[u8] = b"s UNSATISFIABLE";
 
-// The kind of a line. Tests and no `match` over byte strings, which is proved byte by byte, with forty goals.
+// The kind of a line. Tests and no `match` over byte strings, which is proved byte by byte, with forty goals. Where it is a part of the
+// loop that reads lines, that loop makes only the tests that it asks for.
+#[inline]
 pub fn kind_of(line: &[u8]) -> Kind
     ensures { result ≡ kind_of line.now }
 {
@@ -123,7 +147,7 @@ fn length_of_tail(rest: &[u8]) -> usize
     if rest.starts_with(b" ") {
         0
     } else {
-        length_up_to(b' ', rest)
+        length_up_to_far(b' ', rest)
     }
 }
 
