@@ -69,6 +69,7 @@ fn place_and_mark(literal: Literal) -> (usize, u8)
 }
 
 // One word: its variable is marked.
+#[tactic(auto, using(crate::proofs::LineLaws::say_past, crate::proofs::LineLaws::say_twice))]
 fn mark(token: Token, work: &mut [u8]) -> Result<Progress, Fault>
     ensures { part_of result work.new ≡ say_in marks (length work.old) work.old token }
 {

@@ -1,7 +1,7 @@
--- The tests come in the definition's order: past N, twice, what stands behind the digits; then the mark is stored.
+-- The tests come in the definition's order; the last is of what stands behind the digits, and then the mark is stored.
 use Rattle.std.proofs.Common.{sym, ap, ◌∙◌}
 use Rattle.lists.specs.Rows.{num}
-use Rattle.reply.proofs.LineLaws.{say_past, say_twice, say_loose, say_more}
+use Rattle.reply.proofs.LineLaws.{say_loose, say_more}
 use Rattle.reply.specs.Lines.{say_in}
 use Rattle.reply.proofs.mark.Goals as goal
 
@@ -12,18 +12,6 @@ returns-in-Bad c = rw c.in-Bad.is
 pub returns-in-Zero : goal.returns-in-Zero
 unfolding say_in
 returns-in-Zero c = rw c.in-Zero.is
-
-pub returns-then-work-place : goal.returns-then-work-place
-returns-then-work-place c =
-    let n = c.in-Number in
-    rw n.is (say_past _ c.args.work.now n.literal n.ends (rw c.place_and_mark-place.ensures.place at c.if-work-place.true))
-
-pub returns-then-work-place-ne0 : goal.returns-then-work-place-ne0
-returns-then-work-place-ne0 c =
-    let n = c.in-Number in
-    let at = c.place_and_mark-place.ensures.place in
-    let w = c.args.work.now in
-    rw n.is (say_twice _ w n.literal n.ends (rw at at c.if-work-place.false) (λ e. c.if-work-place-ne0.true (ap (num w) at ∙ e)))
 
 pub returns-then-not-ends : goal.returns-then-not-ends
 returns-then-not-ends c =
