@@ -210,6 +210,7 @@ fn read_reply(reply: &[u8], work: &mut [u8]) -> Result<(), Refusal>
 }
 
 // A reply to the clauses of a job.
+#[tactic(auto, using(crate::proofs::CheckLaws::is_51, crate::proofs::CheckLaws::is_60))]
 pub fn check(j: Job, reply: &[u8], work: &mut [u8]) -> Result<(), Refusal>
     ensures { outcome result work.new ≡ checked j reply.now work.old }
 {

@@ -1,27 +1,12 @@
 -- The tests come in 01's order; a reply that is read leaves its values in the buffer, and its clauses decide.
 use Rattle.reply.proofs.LineLaws.{passed_on}
-use Rattle.reply.proofs.CheckLaws.{h, not_unfit, is_45, is_51, is_60, is_refused, is_accepted_lem, is_65}
+use Rattle.reply.proofs.CheckLaws.{h, not_unfit, is_45, is_refused, is_accepted_lem, is_65}
 use Rattle.reply.proofs.check.Goals as goal
 
 pub returns-in_err-fit : goal.returns-in_err-fit
 returns-in_err-fit c =
     let (unfit, refusal) = c.in_err-fit.ensures in
     rw (passed_on _ _ c.from_residual.ensures, refusal) (is_45 c.args.j c.args.reply.now c.args.work.now unfit)
-
-pub returns-then-work-header : goal.returns-then-work-header
-returns-then-work-header c =
-    let a = c.args in
-    let f = c.in_ok-fit in
-    let t = c.header_of-header in
-    rw c.into.ensures (is_51 a.j a.reply.now a.work.now f.fit f.ensures t.result t.ensures c.if-work-header.true)
-
-pub returns-then-reply-gt-MOST_BYTES : goal.returns-then-reply-gt-MOST_BYTES
-returns-then-reply-gt-MOST_BYTES c =
-    let a = c.args in
-    let f = c.in_ok-fit in
-    let t = c.header_of-header in
-    let long = is_60 a.j a.reply.now a.work.now f.fit f.ensures t.result t.ensures c.if-work-header.false c.if-reply-gt-MOST_BYTES.true in
-    rw c.into-then-reply-gt-MOST_BYTES.ensures long
 
 pub returns-in_err-read_reply : goal.returns-in_err-read_reply
 returns-in_err-read_reply c =
