@@ -29,7 +29,7 @@ fn put_name(page: &mut Page, job: &Job, name: Name)
     if name.negated {
         page.byte(b'~');
     }
-    put_item(page, job, name.item);
+    put_item(page, job, usize::from(name.item));
 }
 
 // One space between names.

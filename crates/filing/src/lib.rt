@@ -2,7 +2,7 @@
 #![tactic(auto)]
 
 mod names; // names.rt: a name in a lemma
-mod sorted; // sorted.rt: a sorted list
+mod sorted; // sorted.rt: insertion into a list
 mod rows; // rows.rt: the lemmas in their filing form
 mod lemma_lines; // lemma_lines.rt: their lines
 mod kept_lines; // kept_lines.rt: the lines up to `lemmas`
@@ -18,7 +18,7 @@ use job::{Fault, Job, Refusal};
 use kept_lines::put_kept;
 use lemma_lines::put_lemmas;
 use put::Page;
-use rows::filed_rows;
+use rows::{Rows, file_rows};
 
 // The lines before `lemmas`, that line, and the lemma lines.
 fn put_form(page: &mut Page, text: &[u8], job: &Job)
@@ -28,7 +28,9 @@ fn put_form(page: &mut Page, text: &[u8], job: &Job)
 {
     put_kept(&mut *page, text);
     page.part(b"lemmas\n");
-    put_lemmas(page, job, &filed_rows(job));
+    let mut rows = Rows::new();
+    file_rows(job, &mut rows);
+    put_lemmas(page, job, &rows);
 }
 
 // The filing form of a job text goes to the front of a buffer as long as the text; its length, or a refusal.
