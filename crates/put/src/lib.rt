@@ -37,7 +37,7 @@ impl<'a> Page<'a> {
     {
         let end = self.end;
         if end <= self.out.len() && part.len() <= self.out.len() - end {
-            self.out[end..end + part.len()].copy_from_slice(part);
+            copy(&mut self.out[end..end + part.len()], part);
             self.end += part.len();
         }
     }
@@ -51,6 +51,16 @@ impl<'a> Page<'a> {
             let length = name_length(names, k);
             self.part(&names[from..from + length]);
         }
+    }
+}
+
+// Two slices of a length that lie apart, so that a memcpy does: `copy_from_slice` would ask C for a memmove too.
+fn copy(to: &mut [u8], from: &[u8])
+    requires { length to.old ≡ length from.now }
+    ensures { to.new ≡ from.now }
+{
+    for i in 0..to.len() {
+        to[i] = from[i];
     }
 }
 

@@ -11,7 +11,7 @@ returns-then-part-self c =
     let page = c.args.self.now in
     let part = c.args.part.now in
     adds_whole page part _ (omega arith) refl refl (
-    put_mid-paste page.end _ page.out.now _ part (length part) c.copy_from_slice.ensures.after (omega arith) refl
+    put_mid-paste page.end _ page.out.now _ part (length part) c.copy.ensures (omega arith) refl
     ∙ rw (take-length part)
     )
 

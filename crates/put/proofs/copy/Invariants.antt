@@ -1,0 +1,6 @@
+-- So far they are the same.
+use Rattle.std.proofs.Common.{◌≡◌, take}
+use Rattle.put.proofs.copy.Given as goal
+
+abbrev pub invariant-loop-i : goal.invariant-loop-i
+invariant-loop-i l = take l.i l.to ≡ take l.i l.from
