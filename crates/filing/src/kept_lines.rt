@@ -3,7 +3,7 @@ ghost use Rattle.scan.specs.Lines.{lines};
 ghost use Rattle.form.specs.Form.{kept, ended};
 ghost use Rattle.filing.specs.Lines.{HasRoomFor, PutsAll, kept_text};
 
-use program::{is_comment, is_lemmas};
+use program::is_lemmas;
 use put::Page;
 use scan::Lines;
 
@@ -12,7 +12,7 @@ fn put_kept_line(page: &mut Page, line: &[u8])
     requires { HasRoomFor page.old (kept_text line.now) }
     ensures { PutsAll page.old page.new (kept_text line.now) }
 {
-    if is_comment(line) {
+    if scan::follows(line, 0, b"~") {
         return;
     }
     page.part(line);
