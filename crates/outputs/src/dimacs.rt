@@ -77,27 +77,20 @@ fn put_opening(out: &mut [u8], text: &[u8]) -> Result<Begun, Refusal>
     })
 }
 
-// What is printed of a job text before its clauses.
+// What is printed of a job text before its clauses. It is not inlined: what it needs on the stack is free again while clauses are made.
+#[inline(never)]
 pub fn opening(text: &[u8]) -> Opened
     ensures text { Holds opening_room (opened text.now) result.text.array result.text.length }
     ensures following { IsFollowing text.now result.following }
 {
     let mut array = [0u8; OPENING];
-    match put_opening(&mut array, text) {
-        Ok(begun) => Opened {
-            text: Printed {
-                array,
-                length: begun.length,
-            },
-            following: Some(begun.following),
-        },
-        Err(refusal) => {
-            let length = put_refusal(&mut array, refusal);
-            Opened {
-                text: Printed { array, length },
-                following: None,
-            }
-        }
+    let (length, following) = match put_opening(&mut array, text) {
+        Ok(begun) => (begun.length, Some(begun.following)),
+        Err(refusal) => (put_refusal(&mut array, refusal), None),
+    };
+    Opened {
+        text: Printed { array, length },
+        following,
     }
 }
 

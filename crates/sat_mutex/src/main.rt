@@ -10,7 +10,7 @@ ghost use Rattle.text.specs.Dimacs.{number_room};
 
 use input::read_full;
 use job::Job;
-use outputs::dimacs::{Piece, next_piece, opening};
+use outputs::dimacs::{Following, Piece, next_piece, opening};
 use std::io;
 use std::io::Print;
 
@@ -27,14 +27,22 @@ fn print_pieces<P: Print>(out: &P, j: Job, count: usize, text: &mut [u8]) -> io:
     Ok(())
 }
 
+// The clauses that follow. It is not inlined, so that only a job that has clauses pays for the room of a piece.
+#[inline(never)]
+fn print_clauses<P: Print>(out: &P, following: &Following) -> io::Result<()>
+    requires { following.now.clauses ≡ length (clauses following.now.fit.job) }
+{
+    let mut text = [0u8; Piece::TEXT];
+    print_pieces(out, following.fit.job, following.clauses, &mut text)
+}
+
 fn print_all<P: Print>(out: &P, text: &[u8]) -> io::Result<()> {
     let opened = opening(text);
     out.write_all(opened.text.bytes())?;
-    let Some(following) = opened.following else {
-        return Ok(());
-    };
-    let mut text = [0u8; Piece::TEXT];
-    print_pieces(out, following.fit.job, following.clauses, &mut text)
+    match &opened.following {
+        Some(following) => print_clauses(out, following),
+        None => Ok(()),
+    }
 }
 
 fn main(rt: HostRuntime) {

@@ -5,17 +5,18 @@ use Rattle.text.specs.Lines.{refused}
 use Rattle.outputs.specs.Printing.{zeros}
 use Rattle.outputs.proofs.PrintingLaws.{put_as}
 use Rattle.outputs.proofs.dimacs.opening.Goals as goal
+use Rattle.outputs.proofs.dimacs.opening.Goals.{in-Ok, in-Err}
 
-pub returns-in-Ok-clause-text : goal.returns-in-Ok-clause-text
+pub returns-clause-text : goal.returns-clause-text
 unfolding zeros
-returns-in-Ok-clause-text c =
-    let (size, holds) = c.in-Ok.ensures.0 in
-    record { size = size; bytes = holds }
-
-pub returns-in-Err-clause-text : goal.returns-in-Err-clause-text
-unfolding zeros
-returns-in-Err-clause-text c =
-    let (line, same) = c.in-Err.ensures.0 in
-    let (size, holds) = c.put_refusal-length.ensures in
-    let (n, put) = put_as _ (size, holds ∙ ap (λ l. write l 0 (refused c.in-Err.refusal)) same) line in
-    record { size = n; bytes = put }
+returns-clause-text c =
+    elim c.match-put_opening.branch [
+      | in-Ok w ↦
+          let (size, holds) = w.in-Ok.ensures.0 in
+          rw (w.array-is, w.length-is) (record { size = size; bytes = holds })
+      | in-Err w ↦
+          let (line, same) = w.in-Err.ensures.0 in
+          let (size, holds) = w.put_refusal.ensures in
+          let (n, put) = put_as _ (size, holds ∙ ap (λ l. write l 0 (refused w.in-Err.refusal)) same) line in
+          rw (w.array-is, w.length-is) (record { size = n; bytes = put })
+    ]
