@@ -1,5 +1,5 @@
 -- Laws of a table's names: their length, and the part of the table that a name is.
-use mathlib.Core.Path.{◌≡◌, refl, sym, ◌∙◌}
+use mathlib.Core.Path.{◌≡◌, refl, sym, ap, ◌∙◌}
 use mathlib.Core.Bool.{Bool}
 use mathlib.Core.List.{List, []}
 use Prim.Native.Nat.{ℕ, zero, suc, ◌+◌, ◌*◌, ◌-◌, ◌≤◌, ◌<◌}
@@ -26,7 +26,7 @@ part_tab s b (suc n) h = rw (take-suc (drop b s) n 0 (rw length-drop (omega arit
 
 module _ (names : List ℕ) (k : ℕ) where
   -- byte j of the name, and whether the name ends there
-  abbrev letter : ℕ → ℕ
+  abbrev pub letter : ℕ → ℕ
   letter j = num names (k * 4 + j)
 
   abbrev pub ends : ℕ → Bool
@@ -45,6 +45,11 @@ module _ (names : List ℕ) (k : ℕ) where
 
   pub name_full : (i : ℕ) → i ≡ 4 → first i ends ≡ i → i ≡ length (name_at names k)
   name_full i e f = sym (name_size ∙ rw (← e) f)
+
+  -- a row of so many bytes is the name
+  pub name_is : (i : ℕ) → i ≡ length (name_at names k) → tab i letter ≡ name_at names k
+  unfolding name_at
+  name_is i e = ap (λ n. tab n letter) (e ∙ name_size)
 
   pub name_goes_on : (i x : ℕ) → first i ends ≡ i → x ≡ letter i → (x ≡ 0 → ⊥) → (first (i + 1) ends ≡ i + 1) × (k * 4 + i < length names)
   name_goes_on i x f e z =

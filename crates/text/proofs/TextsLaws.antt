@@ -20,7 +20,7 @@ use Rattle.lists.proofs.PlaceLaws.{passing_stop, row_most, row_next, row_found}
 use Rattle.lists.proofs.WritingLaws.{write_none}
 use Rattle.put.specs.declared.Page.{Page}
 use Rattle.put.specs.Put.{Adds, Puts}
-use Rattle.put.proofs.PutLaws.{put_none, put_most, put_own, put_then, put_fits, put_without, put_front, put_length}
+use Rattle.put.proofs.PutLaws.{put_none, put_most, put_own, put_then, put_fits, put_without, put_front, put_length, adds_whole}
 use Rattle.text.specs.Texts.{fitting, texted, with_texts, PutsWhole}
 
 -- text i fits behind those before it
@@ -103,6 +103,18 @@ module _ (text : ℕ → List ℕ) (start : Page) (front : start.end ≡ 0) wher
         let h = leb-false _ _ (sym p.fits ∙ e) in
         let (end, out) = put_without p.adds h in
         rw (end, out) (begun_full i b n l (omega (arith, b.put.short, begun_end i b, begun_length i b)))
+
+-- a text is put at once where there is room for the longest, by way of a page over the same buffer
+pub put_here : {most : ℕ} {old first line new : Page} {text : List ℕ} → Puts most first line text → first.end ≡ old.end
+    → first.out.now ≡ old.out.now → old.end + most ≤ length old.out.now → new.out.ghost_name ≡ old.out.ghost_name → new.end ≡ line.end
+    → new.out.now ≡ line.out.now → PutsWhole most old new true text
+put_here {old} {line} {new} {text} put e o h same n w =
+    let whole : new.out.now ≡ write old.out.now old.end text = w ∙ put.out ∙ rw (e, o) refl in
+    record {
+      short = put.short;
+      fits = sym (le-leb (old.end + length text) (length old.out.now) (omega (arith, put.short)));
+      adds = adds_whole old text new (omega (arith, put.short)) same (omega (arith, n, put.end, e)) whole;
+    }
 
 -- a text that was made on a page of its own and is put from there
 pub put_made : {most : ℕ} {first line old new : Page} {told : Bool} {text x : List ℕ} → Puts most first line text → first.end ≡ 0

@@ -18,11 +18,18 @@ pub(crate) fn digits(x: usize) -> usize
     }
 }
 
+// Most numbers have one digit, which needs no counting.
+#[inline(always)]
 #[tactic(auto, using(crate::proofs::DigitLaws::decimal_numeral))]
 pub(crate) fn put_number(page: &mut Page, x: usize)
     requires { HasRoom page.old (length (numeral x)) }
     ensures { Puts 20 page.old page.new (numeral x) }
 {
+    if x < 10 {
+        page.out[page.end] = b'0' + x as u8;
+        page.end += 1;
+        return;
+    }
     let end = page.end + digits(x);
     write_digits(x as u64, page.out, end);
     page.end = end;

@@ -1,17 +1,17 @@
 -- One word or none, by the byte.
 use Rattle.std.proofs.Common.{arith}
 use borrow.Author.Tests.{ne_eqb}
-use Rattle.put.proofs.PutLaws.{put_fits, put_none, put_most}
+use Rattle.put.proofs.PutLaws.{put_then, put_none, put_most}
 use Rattle.text.specs.RunText.{turn_text}
 use Rattle.text.proofs.run.put_turn.Goals as goal
 
 pub returns-then-b : goal.returns-then-b
 unfolding turn_text
-returns-then-b c = rw c.if-b.true (put_fits c.part.ensures c.requires)
+returns-then-b c = rw c.if-b.true (put_then c.put_byte.ensures c.put_byte-then-b.ensures c.requires)
 
 pub returns-then-b-2 : goal.returns-then-b-2
 unfolding turn_text
-returns-then-b-2 c = rw c.if-b-2.true (put_fits c.part-then-b-2.ensures c.requires)
+returns-then-b-2 c = rw c.if-b-2.true (put_then c.put_byte-then-b-2.ensures c.put_byte-then-b-2-2.ensures c.requires)
 
 pub returns-else-b-2 : goal.returns-else-b-2
 unfolding turn_text

@@ -18,7 +18,8 @@ signed c =
     elim c.if-x-lt0.branch [
       | then-x-lt0 w ↦
           let e = tested c.args.x true c.ranges.x w.if-x-lt0.true in
-          ap (λ (p : Page). p.out.now) w.page-is ∙ sign_written page.out.now page.end c.args.x (omega (arith, c.requires, length_parts c.args.x)) e
+          ap (λ (p : Page). p.out.now) w.page-is
+          ∙ sign_written page.out.now page.end c.args.x (omega (arith, c.requires, length_parts c.args.x)) e
       | else-x-lt0 w ↦
           let e = tested c.args.x false c.ranges.x w.if-x-lt0.false in
           ap (λ (p : Page). p.out.now) w.page-is ∙ sign_none page.out.now page.end c.args.x e
@@ -75,5 +76,6 @@ returns c =
       ];
       short = omega arith;
       end = c.requires.place;
-      out = rw last (told_written page.out.now page.end z c.args.end c.requires.place c.requires.room _ (signed at) _ _ (rw ds at w.start) (rw ds at w.written) w.before);
+      out = rw last (told_written page.out.now page.end z c.args.end c.requires.place c.requires.room _ (signed at) _ _
+          (rw ds at w.start) (rw ds at w.written) w.before);
     }
