@@ -27,7 +27,7 @@ fn put_run(out: &mut [u8], job: &[u8], reply: &[u8]) -> Result<usize, Refusal>
     let job = parse::read(job)?;
     let header = totals::totals(job)?;
     if MOST < header.variables || MOST < reply.len() {
-        return Err(Fault::TooLarge.into());
+        return Err(Fault::TooLarge.at(0));
     }
     let mut values = [0u8; MOST];
     reply::check(job, reply, &mut values)?;

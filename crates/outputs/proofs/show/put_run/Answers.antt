@@ -30,7 +30,7 @@ returns-then-header-gt-MOST c =
     let (_, is) = totals_fit J _ c.totals.ensures _ c.in_ok-header.was in
     let variables = ap (λ (h : Header). h.variables) is in
     let shown = shown_reply a.job.now J (sym c.in_ok-job.ensures.reading) a.reply.now in
-    let line = ap refused c.into.ensures in
+    let line = ap refused c.at.ensures in
     elim c.then-header-gt-MOST.branch [
       | then-header-gt-MOST-via-then-header-gt-MOST w ↦
           (line ∙ many_variables J a.reply.now (omega (arith, w.if-header-gt-MOST.true, variables)) ∙ shown, refl)
