@@ -1,4 +1,4 @@
-// Bytes put into a lent buffer, one part behind the other. Every method but `name_within` is total: what has no room is not put.
+// Bytes put into a lent buffer, one part behind the other. Every method is total: what has no room is not put.
 #![tactic(auto)]
 
 ghost use Rattle.std.specs.Prelude.{◌≡◌, [], ◌∷◌, ◌+◌, ◌*◌, ◌≤◌, length};
@@ -12,7 +12,7 @@ pub struct Page<'a> {
 }
 
 impl<'a> Page<'a> {
-    ghost use Rattle.put.specs.Put.{Adds, HasRoom};
+    ghost use Rattle.put.specs.Put.{Adds};
 
     // The buffer from its front on.
     pub fn new(out: &'a mut [u8]) -> Page<'a>
@@ -42,36 +42,7 @@ impl<'a> Page<'a> {
         }
     }
 
-    // Name k of a table where there is room for any name: byte by byte, in less time than a call that copies a few.
-    #[inline]
-    fn name_at_once(&mut self, names: &[u8], k: usize)
-        requires { (k * 4 ≤ length names.now) × HasRoom self.old 4 }
-        ensures { Adds self.old self.new (name_at names.now k) }
-    {
-        let end = self.end;
-        for i in 0..4 {
-            let b = lists::get_or(names, k * 4 + i, 0);
-            if b == 0 {
-                self.end = end + i;
-                return;
-            }
-            self.out[end + i] = b;
-        }
-        self.end = end + 4;
-    }
-
-    // Name k of a table, counted from 0; past the table it is empty. The caller has seen that there is room for any name.
-    #[inline]
-    pub fn name_within(&mut self, names: &[u8], k: usize)
-        requires { HasRoom self.old 4 }
-        ensures { Adds self.old self.new (name_at names.now k) }
-    {
-        if k <= names.len() / 4 {
-            self.name_at_once(names, k);
-        }
-    }
-
-    // The same whatever the room is.
+    // Name k of a table, counted from 0; past the table it is empty.
     pub fn name(&mut self, names: &[u8], k: usize)
         ensures { Adds self.old self.new (name_at names.now k) }
     {

@@ -1,6 +1,7 @@
 // The lines of a run.
 ghost use Rattle.std.specs.Prelude.{[], ◌∷◌, ◌+◌, ◌*◌, ◌-◌, ◌≤◌, length};
 ghost use Rattle.lists.specs.Rows.{num};
+ghost use Rattle.put.specs.Names.{name_at};
 ghost use Rattle.put.specs.Put.{HasRoom, Puts};
 ghost use Rattle.text.specs.Texts.{PutsWhole};
 ghost use Rattle.text.specs.RunText.{word, bit_text, bits_text, turn_text, steps_text, line_text, run_line};
@@ -26,13 +27,42 @@ fn put_byte(page: &mut Page, b: u8)
     page.end = end + 1;
 }
 
+// Name k, which the table has: byte by byte, in less time than a call that copies a few.
+#[inline(always)]
+fn put_held(page: &mut Page, names: &[u8], k: usize)
+    requires { (k * 4 ≤ length names.now) × HasRoom page.old 4 }
+    ensures { Puts 4 page.old page.new (name_at names.now k) }
+{
+    let end = page.end;
+    for i in 0..4 {
+        let b = get_or(names, k * 4 + i, 0);
+        if b == 0 {
+            page.end = end + i;
+            return;
+        }
+        page.out[end + i] = b;
+    }
+    page.end = end + 4;
+}
+
+// As a page puts a name, where there is room for any.
+#[inline(always)]
+fn put_name(page: &mut Page, names: &[u8], k: usize)
+    requires { HasRoom page.old 4 }
+    ensures { Puts 4 page.old page.new (name_at names.now k) }
+{
+    if k <= names.len() / 4 {
+        put_held(page, names, k);
+    }
+}
+
 #[inline(always)]
 fn put_word(page: &mut Page, names: &[u8], k: usize)
     requires { HasRoom page.old 5 }
     ensures { Puts 5 page.old page.new (word names.now k) }
 {
     put_byte(page, b' ');
-    page.name_within(names, k);
+    put_name(page, names, k);
 }
 
 // `a=0` behind a space.
