@@ -14,9 +14,6 @@ use Rattle.lists.proofs.RowLaws.{length_tab}
 use Rattle.lists.proofs.PlaceLaws.{first_zero, first_most, first_none, first_found}
 use Rattle.scan.proofs.WordLaws.{byte_out, byte_in}
 use Rattle.put.specs.Names.{name_at}
-use Rattle.put.specs.declared.Page.{Page}
-use Rattle.put.specs.Put.{Adds, Puts}
-use Rattle.put.proofs.PutLaws.{put_within}
 
 -- the n bytes from place b on
 part_tab : (s : List ℕ) (b n : ℕ) → b + n ≤ length s → take n (drop b s) ≡ tab n (λ j. num s (b + j))
@@ -68,7 +65,3 @@ module _ (names : List ℕ) (k : ℕ) where
   name_part end e h =
       let n : end - k * 4 ≡ first 4 ends = omega (arith, name_size) in
       rw n (part_tab names (k * 4) (first 4 ends) (omega (arith, name_size)))
-
-  -- where there is room for four bytes, the name is put
-  pub name_fits : {old new : Page} → Adds old new (name_at names k) → old.end + 4 ≤ length old.out.now → Puts 4 old new (name_at names k)
-  name_fits a h = put_within a name_short h
