@@ -128,7 +128,7 @@ module _ (N : ℕ) (m : List ℕ) (p : List ℕ) where
   says Other = fault 61 m
 
   -- the kinds that are neither
-  says_else : (q : Kind) → (q ≡ Comment → ⊥) → (q ≡ Values → ⊥) → fault 61 m ≡ says q
+  pub says_else : (q : Kind) → (q ≡ Comment → ⊥) → (q ≡ Values → ⊥) → fault 61 m ≡ says q
   says_else Comment f g = absurd (f refl)
   says_else Satisfiable f g = refl
   says_else Unsatisfiable f g = refl
@@ -180,12 +180,26 @@ module _ (k k' : ℕ) (rest : Pieces) where
   opens Values = stopped 61 k
   opens Other = stopped 61 k
 
+  pub opens_else : (q : Kind) → (q ≡ Comment → ⊥) → (q ≡ Satisfiable → ⊥) → (q ≡ Unsatisfiable → ⊥) → stopped 61 k ≡ opens q
+  opens_else Comment f g h = absurd (f refl)
+  opens_else Satisfiable f g h = absurd (g refl)
+  opens_else Unsatisfiable f g h = absurd (h refl)
+  opens_else Values f g h = refl
+  opens_else Other f g h = refl
+
   abbrev pub closes : Kind → Option ℕ
   closes Comment = closing k' rest
   closes Satisfiable = Some k
   closes Unsatisfiable = Some k
   closes Values = Some k
   closes Other = Some k
+
+  pub closes_else : (q : Kind) → (q ≡ Comment → ⊥) → Some k ≡ closes q
+  closes_else Comment h = absurd (h refl)
+  closes_else Satisfiable h = refl
+  closes_else Unsatisfiable h = refl
+  closes_else Values h = refl
+  closes_else Other h = refl
 
 -- p is the first line of ps, with number k and kind q
 
