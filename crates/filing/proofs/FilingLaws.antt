@@ -36,11 +36,12 @@ module _ (text : List ℕ) (j : Job) (given : Promised text (Ok j)) where
   job_sized =
       let fits = accepted_fit text j read in
       let few = fit_lemmas j fits in
+      let sizes = fit_sizes j fits in
       let (_, (_, (lemmas, _))) = passed _ fits in
       record {
         lemmas = few;
         names = λ k l. (lemma_is j.lengths j.items j.lemmas (w j.program) few lemmas k l).1;
-        small = λ k l. wider (w j.program) 256 (omega (arith, (fit_sizes j fits).steps, (fit_sizes j fits).variables)) (lemma j k) ((fit_good j fits).lemmas k l);
+        small = λ k l. wider (w j.program) 256 (omega (arith, sizes.steps, sizes.variables)) (lemma j k) ((fit_good j fits).lemmas k l);
         items = accepted_items text j read;
       }
 
