@@ -39,11 +39,16 @@ pub fn file(text: &[u8], out: &mut [u8]) -> Result<usize, Refusal>
     ensures { (answer_of result ≡ (filing text.now out.old).answer)
         × (out.new ≡ (filing text.now out.old).buffer) }
 {
-    let job = parse::read(text)?;
+    // Taken apart where it is: `?` would copy the table twice more.
+    let read = parse::read(text);
+    let job = match &read {
+        Ok(job) => job,
+        Err(refusal) => return Err(*refusal),
+    };
     if out.len() < text.len() {
         return Err(Fault::BufferShort.into());
     }
     let mut page = Page::new(out);
-    put_form(&mut page, text, &job);
+    put_form(&mut page, text, job);
     Ok(page.end)
 }
