@@ -12,8 +12,12 @@ use job::Job;
 pub fn file(text: &[u8]) -> Printed<{ Job::TEXT }>
     ensures { Holds max_text (filed text.now) result.array result.length }
 {
-    let mut array = [0u8; Job::TEXT];
-    let form = filing::file(text, &mut array);
-    let length = or_refusal(&mut array, form);
-    Printed { array, length }
+    // Made in its place: a copy of the array is as long as the longest job.
+    let mut printed = Printed {
+        array: [0u8; Job::TEXT],
+        length: 0,
+    };
+    let form = filing::file(text, &mut printed.array);
+    printed.length = or_refusal(&mut printed.array, form);
+    printed
 }

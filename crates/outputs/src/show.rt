@@ -1,5 +1,6 @@
 // The second program: the run that a reply gives.
 ghost use Rattle.std.specs.Prelude.{◌≡◌, ◌≤◌, length};
+ghost use Rattle.parse.specs.Reading.{reading};
 ghost use Rattle.outputs.specs.Printing.{Holds, Shows};
 ghost use Rattle.outputs.specs.Show.{shown_room, shown};
 
@@ -19,12 +20,20 @@ const LINE: usize = 2 + 2 * 5 + Job::STEPS * 7 + 2 + 1;
 // The lines of a run.
 pub const LINES: usize = (Job::BOUND + 1) * LINE;
 
+// Not inlined: what reading takes of the stack is free again while the reply is checked.
+#[inline(never)]
+fn read(job: &[u8]) -> Result<Job, Refusal>
+    ensures reading { result ≡ reading job.now }
+{
+    parse::read(job)
+}
+
 // The lines of the run. 52 comes before the checker, whose 51 would hide it.
 fn put_run(out: &mut [u8], job: &[u8], reply: &[u8]) -> Result<usize, Refusal>
     requires { shown_room ≤ length out.old }
     ensures { Shows (shown job.now reply.now) result out.old out.new }
 {
-    let job = parse::read(job)?;
+    let job = read(job)?;
     let header = totals::totals(job)?;
     if MOST < header.variables || MOST < reply.len() {
         return Err(Fault::TooLarge.at(0));
@@ -41,8 +50,11 @@ fn put_run(out: &mut [u8], job: &[u8], reply: &[u8]) -> Result<usize, Refusal>
 pub fn show(job: &[u8], reply: &[u8]) -> Printed<LINES>
     ensures { Holds shown_room (shown job.now reply.now) result.array result.length }
 {
-    let mut array = [0u8; LINES];
-    let run = put_run(&mut array, job, reply);
-    let length = or_refusal(&mut array, run);
-    Printed { array, length }
+    let mut printed = Printed {
+        array: [0u8; LINES],
+        length: 0,
+    };
+    let run = put_run(&mut printed.array, job, reply);
+    printed.length = or_refusal(&mut printed.array, run);
+    printed
 }

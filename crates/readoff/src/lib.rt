@@ -90,7 +90,9 @@ fn read_fit(fit: &FitJob, values: &[u8], run: &mut [u8]) -> Result<(), Refusal>
     Ok(())
 }
 
+// Not inlined: what it takes of the stack is free again while its caller goes on.
 #[tactic(auto, unfolding(crate::specs::ReadingOff::reading_off))]
+#[inline(never)]
 pub fn read_off(j: Job, values: &[u8], run: &mut [u8]) -> Result<(), Refusal>
     ensures { (answer_of result ≡ (reading_off j values.now run.old).answer)
         × (run.new ≡ (reading_off j values.now run.old).buffer) }

@@ -10,13 +10,13 @@ pub returns : goal.returns
 unfolding zeros
 returns c =
     let form = c.file-form in
-    let (size, bytes) = shows_prints _ _ _ _ _ _ (files c.args.text.now _ _ (omega arith) _ form.ensures) c.or_refusal-length.ensures in
+    let (size, bytes) = shows_prints _ _ _ _ _ _ (files c.args.text.now _ _ (omega arith) _ form.ensures) c.or_refusal.ensures in
     record { size = size; bytes = bytes }
 
 -- the text lies in the array
-pub invariant_of-result : goal.invariant_of-result
-invariant_of-result c =
+pub invariant_of-printed : goal.invariant_of-printed
+invariant_of-printed c =
     let form = c.file-form in
-    let (size, bytes) = shows_prints _ _ _ _ _ _ (files c.args.text.now _ _ (omega arith) _ form.ensures) c.or_refusal-length.ensures in
+    let (size, bytes) = shows_prints _ _ _ _ _ _ (files c.args.text.now _ _ (omega arith) _ form.ensures) c.or_refusal.ensures in
     let within = written_within _ _ (filed c.args.text.now) _ size bytes in
     omega (arith, within)

@@ -6,5 +6,5 @@ use Rattle.outputs.proofs.show.show.Goals as goal
 pub returns : goal.returns
 unfolding zeros
 returns c =
-    let (size, bytes) = shows_prints _ _ _ _ _ _ c.put_run-run.ensures c.or_refusal-length.ensures in
+    let (size, bytes) = shows_prints _ _ _ _ _ _ c.put_run-run.ensures c.or_refusal.ensures in
     record { size = size; bytes = bytes }
