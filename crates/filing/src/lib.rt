@@ -39,7 +39,7 @@ pub fn file(text: &[u8], out: &mut [u8]) -> Result<usize, Refusal>
     ensures { (answer_of result ≡ (filing text.now out.old).answer)
         × (out.new ≡ (filing text.now out.old).buffer) }
 {
-    // Taken apart where it is: `?` would copy the table twice more.
+    // The table is lent from where it was read.
     let read = parse::read(text);
     let job = match &read {
         Ok(job) => job,

@@ -7,7 +7,8 @@ ghost use Rattle.lent.specs.Lent.{IsLent};
 use fields::Cursor;
 use job::Fault;
 
-// A field of the line s, read where the cursor stands: the cursor is moved on where the field is read, and else stays.
+// A field of the line s, read where the cursor stands: the cursor is moved on where the field is read, and else stays. It
+// asks that the field may be called, which no call can test; each reader of `fields` may.
 pub fn read<F: FnOnce(&[u8], Cursor) -> Result<Cursor, Fault>>(
     field: F,
     s: &[u8],

@@ -12,7 +12,6 @@ use job::Job;
 pub fn file(text: &[u8]) -> Printed<{ Job::TEXT }>
     ensures { Holds max_text (filed text.now) result.array result.length }
 {
-    // Made in its place: a copy of the array is as long as the longest job.
     let mut printed = Printed {
         array: [0u8; Job::TEXT],
         length: 0,

@@ -15,6 +15,7 @@ fn number_true(values: &[u8], z: i32) -> bool
     }
 }
 
+// One of the numbers is true. Open to others: here a reply's clauses are tried by their literals.
 #[tactic(auto, using(crate::proofs::TruthLaws::some_none))]
 pub fn some_true(values: &[u8], clause: &[i32]) -> bool
     ensures { result ≡ some_true values.now clause.now }
