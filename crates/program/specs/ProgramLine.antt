@@ -42,6 +42,8 @@ whole (Err fault) rest = Err fault
 abbrev pub line_of : Draft → Row → ℕ → Result (Option Draft) Fault
 line_of d l n = whole (whole_line l) (program_line d l.bytes n)
 
+-- ---- how the code comes to it, which is lent the draft
+
 -- whether lines go on behind a line, as they do but at `lemmas`
 abbrev pub goes_on : Result (Option Draft) Fault → Result Bool Fault
 goes_on (Ok (Some e)) = Ok true
